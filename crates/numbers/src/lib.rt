@@ -1,0 +1,2 @@
+// Leaf functions on numbers.
+pub mod halves;

@@ -1,0 +1,31 @@
+-- Document 01, "Numbers given back": a call's number and what stands beside it.
+use Prim.Native.Nat.{ℕ}
+
+pub record Answer : Type 0 where
+  pub number : ℕ
+  pub beside : ℕ
+
+abbrev pub answer : ℕ → ℕ → Answer
+answer n b = record { number = n; beside = b }
+
+-- done, with what was read (0 where nothing is)
+abbrev pub done : ℕ → Answer
+done value = answer 0 value
+
+abbrev pub reservedOpcode : ℕ → Answer
+reservedOpcode position = answer 1 position
+
+abbrev pub reservedControlWord : ℕ → Answer
+reservedControlWord position = answer 2 position
+
+abbrev pub disabled : Answer
+disabled = answer 3 0
+
+abbrev pub badFile : ℕ → Answer
+badFile recordNumber = answer 10 recordNumber
+
+abbrev pub valueRefused : Answer
+valueRefused = answer 11 0
+
+abbrev pub outOfRange : Answer
+outOfRange = answer 12 0

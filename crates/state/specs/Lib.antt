@@ -1,0 +1,3 @@
+-- The state and the numbers that calls give back.
+pub mod Answer
+pub mod State
