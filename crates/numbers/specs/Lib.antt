@@ -1,3 +1,4 @@
 -- Definitions on numbers that every layer uses.
+pub mod Bits
 pub mod Choice
 pub mod Halves

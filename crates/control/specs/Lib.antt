@@ -1,0 +1,2 @@
+-- What each control move gives back and leaves.
+pub mod Moves
