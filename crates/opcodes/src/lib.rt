@@ -1,0 +1,83 @@
+// Opcodes and control words: which instructions are accepted, and what they say.
+use state::Register;
+ghost use mathlib.Core.Path.{_≡_};
+ghost use Rattle.opcodes.specs.Decoding.{Decodes};
+
+pub mod control_word;
+pub mod table;
+
+// What an instruction does to an element, or to memory. A later operation is one more case.
+pub enum Work {
+    AddLongword,
+    SubtractLongword,
+    MultiplyLongword,
+    CompareLongword,
+    BitSet,
+    ExclusiveOr,
+    BitClear,
+    ShiftRight,
+    ShiftLeft,
+    AddF,
+    SubtractF,
+    MultiplyF,
+    CompareF,
+    Convert,
+    Iota,
+    Merge,
+    LoadLongword,
+    LoadQuadword,
+    StoreLongword,
+    StoreQuadword,
+}
+
+// An opcode: its work, and whether it is the scalar form; or none. The scalar form of an operate opcode
+// takes a scalar for Va (IOTA: the stride); that of a memory opcode takes offsets from Vb instead of a
+// stride.
+pub enum Opcode {
+    Accepted(Work, bool),
+    Reserved,
+}
+
+// A decoded instruction: the one value that the layers above work from.
+pub struct Instruction {
+    pub work: Work,
+    // The opcode's form, as in Opcode.
+    pub scalar: bool,
+    // With moe, only elements whose mask bit is mtf are operated on.
+    pub moe: bool,
+    pub mtf: bool,
+    // Integer overflow and floating underflow are recorded.
+    pub exc: bool,
+    // The conversion, for convert.
+    pub va: Register,
+    pub vb: Register,
+    // <2:0> is the relation, for compare.
+    pub vc: Register,
+}
+
+// What the control word of an accepted opcode says.
+pub enum ControlWord {
+    Accepted(Instruction),
+    Reserved,
+}
+
+// What an opcode and a control word say.
+pub enum Decoded {
+    Accepted(Instruction),
+    ReservedOpcode,
+    ReservedControlWord,
+}
+
+// What an opcode and a control word say. A refused opcode ends the check: only an accepted one has its
+// control word read.
+pub fn decode(opcode: u8, cntrl: u16) -> Decoded
+    ensures { λ r. ⌜ Decodes opcode cntrl r ⌝ }
+{
+    let Opcode::Accepted(work, scalar) = table::look_up(opcode) else {
+        return Decoded::ReservedOpcode;
+    };
+    let ControlWord::Accepted(instruction) = control_word::read_control(work, scalar, cntrl) else {
+        return Decoded::ReservedControlWord;
+    };
+    Decoded::Accepted(instruction)
+}
