@@ -2,3 +2,5 @@
 pub mod Bits
 pub mod Choice
 pub mod Halves
+pub mod Relation
+pub mod Signed

@@ -1,2 +1,3 @@
 // Leaf functions on numbers.
 pub mod halves;
+pub mod relation;

@@ -1,0 +1,2 @@
+-- The integer, logical and shift work of one element.
+pub mod Longword

@@ -1,0 +1,4 @@
+-- Laws of the definitions on numbers.
+pub mod Differences
+pub mod Longwords
+pub mod Relations
