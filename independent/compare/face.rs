@@ -1,0 +1,502 @@
+//! Compares the whole proved library, over its C interface, with the independent program.
+//!
+//!     compare_face [cases] [seed]
+//!
+//! Each call is put `cases` times (20,000 if not said; lists a quarter as often). Number, what stands
+//! beside it, all elements, all controls and all memory are compared, guard bytes around every lent
+//! slice too. The exit status is 1 if anything differed, or if some number that a call can give never
+//! came up.
+
+use independent::generate::*;
+use independent::machine::*;
+use independent::queue::{accept, run, run_order, Queue};
+use independent::random::Random;
+use independent::saved::{load, reading, save, Reading};
+use std::collections::BTreeMap;
+use std::process::ExitCode;
+
+extern "C" {
+    fn kuj_execute(
+        elements: *mut u64,
+        control: *mut u64,
+        opcode: u8,
+        cntrl: u16,
+        scalar: u64,
+        base: u32,
+        stride: u32,
+        window: *mut u8,
+        window_len: usize,
+        origin: u64,
+        beside: *mut u64,
+    ) -> u32;
+    fn kuj_run(
+        elements: *mut u64,
+        control: *mut u64,
+        opcodes: *const u8,
+        n_opcodes: usize,
+        cntrls: *const u16,
+        n_cntrls: usize,
+        scalars: *const u64,
+        n_scalars: usize,
+        beside: *mut u64,
+    ) -> u32;
+    fn kuj_run_order(
+        elements: *mut u64,
+        control: *mut u64,
+        opcodes: *const u8,
+        n_opcodes: usize,
+        cntrls: *const u16,
+        n_cntrls: usize,
+        scalars: *const u64,
+        n_scalars: usize,
+        order: *const u64,
+        n_order: usize,
+        beside: *mut u64,
+    ) -> u32;
+    fn kuj_save(elements: *const u64, control: *const u64, file: *mut u8, n: usize, beside: *mut u64) -> u32;
+    fn kuj_load(elements: *mut u64, control: *mut u64, file: *const u8, n: usize, beside: *mut u64) -> u32;
+    fn kuj_reading(
+        elements: *const u64,
+        control: *const u64,
+        reg: u8,
+        element: u8,
+        kind: u8,
+        kind_read: *mut u64,
+        bits: *mut u64,
+        beside: *mut u64,
+    ) -> u32;
+    fn kuj_read_vlr(control: *const u64, beside: *mut u64) -> u32;
+    fn kuj_read_vcr(control: *const u64, beside: *mut u64) -> u32;
+    fn kuj_read_vmr_low(control: *const u64, beside: *mut u64) -> u32;
+    fn kuj_read_vmr_high(control: *const u64, beside: *mut u64) -> u32;
+    fn kuj_read_vaer(control: *const u64, beside: *mut u64) -> u32;
+    fn kuj_read_vpsr(control: *const u64, beside: *mut u64) -> u32;
+    fn kuj_write_vlr(control: *mut u64, value: u32, beside: *mut u64) -> u32;
+    fn kuj_write_vcr(control: *mut u64, value: u32, beside: *mut u64) -> u32;
+    fn kuj_write_vmr_low(control: *mut u64, value: u32, beside: *mut u64) -> u32;
+    fn kuj_write_vmr_high(control: *mut u64, value: u32, beside: *mut u64) -> u32;
+    fn kuj_write_vpsr(control: *mut u64, value: u32, beside: *mut u64) -> u32;
+}
+
+/// What a call cannot leave there by chance.
+const UNWRITTEN: u64 = 0xDEAD_BEEF_0BAD_F00D;
+
+/// A slice lent to a call, with guards on both sides.
+struct Lent<T> {
+    cells: Vec<T>,
+    guard: T,
+}
+
+impl<T: Copy + PartialEq> Lent<T> {
+    fn new(cells: &[T], guard: T) -> Lent<T> {
+        Lent { cells: [&[guard; GUARD][..], cells, &[guard; GUARD][..]].concat(), guard }
+    }
+
+    /// A pointer that is not null, also to nothing.
+    fn pointer(&mut self) -> *mut T {
+        self.cells[GUARD..].as_mut_ptr()
+    }
+
+    fn is_now(&self, cells: &[T]) -> bool {
+        let end = self.cells.len() - GUARD;
+        self.cells[GUARD..end] == *cells
+            && self.cells[..GUARD].iter().chain(&self.cells[end..]).all(|&cell| cell == self.guard)
+    }
+}
+
+fn elements_of(state: &State) -> Vec<u64> {
+    state.registers.iter().flatten().copied().collect()
+}
+
+fn control_of(state: &State) -> [u64; 5] {
+    [state.vlr, state.vmr, state.vcr, state.vaer, state.vpsr]
+}
+
+/// A state lent to a call.
+struct LentState {
+    elements: Lent<u64>,
+    control: Lent<u64>,
+    beside: u64,
+}
+
+impl LentState {
+    fn new(state: &State) -> LentState {
+        LentState {
+            elements: Lent::new(&elements_of(state), UNWRITTEN),
+            control: Lent::new(&control_of(state), UNWRITTEN),
+            beside: UNWRITTEN,
+        }
+    }
+
+    fn is_now(&self, state: &State) -> bool {
+        self.elements.is_now(&elements_of(state)) && self.control.is_now(&control_of(state))
+    }
+}
+
+/// Number and what stands beside it.
+type Answer = (u32, u64);
+
+fn answer<T>(result: &Result<T, Refusal>, done: impl Fn(&T) -> u64) -> Answer {
+    match result {
+        Ok(value) => (0, done(value)),
+        Err(refusal) => (refusal.number, refusal.beside),
+    }
+}
+
+#[derive(Default)]
+struct Report {
+    /// How often each call gave each number.
+    numbers: BTreeMap<&'static str, BTreeMap<u32, u64>>,
+    differences: u64,
+}
+
+const SHOWN: u64 = 20;
+
+impl Report {
+    /// `rest_same`: everything but the answer is as it should be.
+    fn case(
+        &mut self,
+        call: &'static str,
+        given: Answer,
+        expected: Answer,
+        rest_same: bool,
+        input: impl Fn() -> String,
+    ) {
+        *self.numbers.entry(call).or_default().entry(expected.0).or_default() += 1;
+        if given != expected || !rest_same {
+            self.differences += 1;
+            if self.differences <= SHOWN {
+                let rest = if rest_same { "" } else { "; state or memory differ" };
+                println!("DIFFERS: {call}: given {given:?}, expected {expected:?}{rest}: {}", input());
+            }
+        }
+    }
+}
+
+fn controls_text(state: &State) -> String {
+    let [vlr, vmr, vcr, vaer, vpsr] = control_of(state);
+    format!("VLR {vlr} VMR {vmr:016X} VCR {vcr} VAER {vaer:X} VPSR {vpsr:X}")
+}
+
+fn compare_execute(random: &mut Random, cases: u64, report: &mut Report) {
+    let accepted: Vec<u8> = [accepted_opcodes(false), accepted_opcodes(true)].concat();
+    for case in 0..cases {
+        let mut state = state(random);
+        // Every accepted opcode in turn, memory ones twice as often, and any opcode now and then.
+        let opcode = match case % 8 {
+            0 => random.bits() as u8,
+            1 | 2 => random.pick(&accepted_opcodes(true)),
+            _ => accepted[(case / 8 % accepted.len() as u64) as usize],
+        };
+        let instruction = instruction(random, opcode);
+        let decoded = fields(work_of(opcode).unwrap_or(Work::Load { bytes: 4 }), &instruction);
+        let memory = memory(random, &decoded, &mut state);
+        let expected = execute(&state, &instruction, &memory);
+        let mut lent = LentState::new(&state);
+        let mut window = Lent::new(&memory.window, 0xC3);
+        // SAFETY: every pointer is to a lent vector of the length that the interface asks for.
+        let number = unsafe {
+            kuj_execute(
+                lent.elements.pointer(),
+                lent.control.pointer(),
+                opcode,
+                instruction.control_word,
+                instruction.scalar,
+                memory.base,
+                memory.stride,
+                window.pointer(),
+                memory.window.len(),
+                memory.origin,
+                &mut lent.beside,
+            )
+        };
+        let (after, window_after) = expected.as_ref().map_or((&state, &memory.window), |(s, w)| (s, w));
+        let rest_same = lent.is_now(after) && window.is_now(window_after);
+        report.case("execute", (number, lent.beside), answer(&expected, |_| 0), rest_same, || {
+            format!(
+                "{instruction:X?} base {:X} stride {:X} origin {:X} length {}; {}",
+                memory.base,
+                memory.stride,
+                memory.origin,
+                memory.window.len(),
+                controls_text(&state)
+            )
+        });
+    }
+}
+
+fn lend_queue(queue: &Queue) -> (Lent<u8>, Lent<u16>, Lent<u64>) {
+    (Lent::new(&queue.opcodes, 0xC3), Lent::new(&queue.control_words, 0xC3C3), Lent::new(&queue.scalars, UNWRITTEN))
+}
+
+fn compare_run(random: &mut Random, cases: u64, report: &mut Report) {
+    for _ in 0..cases {
+        let (state, queue) = (state(random), any_queue(random));
+        let expected = run(&state, &queue);
+        let mut lent = LentState::new(&state);
+        let (mut opcodes, mut words, mut scalars) = lend_queue(&queue);
+        // SAFETY: as above.
+        let number = unsafe {
+            kuj_run(
+                lent.elements.pointer(),
+                lent.control.pointer(),
+                opcodes.pointer(),
+                queue.opcodes.len(),
+                words.pointer(),
+                queue.control_words.len(),
+                scalars.pointer(),
+                queue.scalars.len(),
+                &mut lent.beside,
+            )
+        };
+        let rest_same = lent.is_now(expected.as_ref().unwrap_or(&state));
+        report.case("run", (number, lent.beside), answer(&expected, |_| 0), rest_same, || {
+            format!("{queue:X?}; {}", controls_text(&state))
+        });
+    }
+}
+
+/// A list for a queue: permitted, damaged, against one binding, or (for a queue that is refused) anything.
+fn list_for(random: &mut Random, state: &State, queue: &Queue) -> Vec<u64> {
+    let Ok(instructions) = accept(state, queue) else {
+        return (0..random.below(5)).map(|_| random.below(1_100)).collect();
+    };
+    let vlr = state.vlr as usize;
+    if random.once_in(3) {
+        if let Some(order) = order_against_one_binding(random, &instructions, vlr) {
+            return order;
+        }
+    }
+    let mut order = permitted_order(random, &instructions, vlr);
+    if random.flip() {
+        for _ in 0..random.between(1, 2) {
+            damage_order(random, &mut order);
+        }
+    }
+    order
+}
+
+fn compare_run_order(random: &mut Random, cases: u64, report: &mut Report) {
+    for _ in 0..cases {
+        let (state, queue) = (state(random), any_queue(random));
+        let order = list_for(random, &state, &queue);
+        let expected = run_order(&state, &queue, &order);
+        // Demand 3, within the independent program itself.
+        if let Ok(after) = &expected {
+            assert_eq!(Ok(after), run(&state, &queue).as_ref(), "a permitted list ends as the straight run");
+        }
+        let mut lent = LentState::new(&state);
+        let (mut opcodes, mut words, mut scalars) = lend_queue(&queue);
+        let mut list = Lent::new(&order, UNWRITTEN);
+        // SAFETY: as above.
+        let number = unsafe {
+            kuj_run_order(
+                lent.elements.pointer(),
+                lent.control.pointer(),
+                opcodes.pointer(),
+                queue.opcodes.len(),
+                words.pointer(),
+                queue.control_words.len(),
+                scalars.pointer(),
+                queue.scalars.len(),
+                list.pointer(),
+                order.len(),
+                &mut lent.beside,
+            )
+        };
+        let rest_same = lent.is_now(expected.as_ref().unwrap_or(&state)) && list.is_now(&order);
+        report.case("run_order", (number, lent.beside), answer(&expected, |_| 0), rest_same, || {
+            format!("{queue:X?} list of {}; {}", order.len(), controls_text(&state))
+        });
+    }
+}
+
+fn compare_files(random: &mut Random, cases: u64, report: &mut Report) {
+    for _ in 0..cases {
+        let (state, room) = (state(random), room(random));
+        let expected = save(&state, room);
+        let held: Vec<u8> = (0..room).map(|_| random.bits() as u8).collect();
+        let mut lent = LentState::new(&state);
+        let mut file = Lent::new(&held, 0xC3);
+        // SAFETY: as above.
+        let number = unsafe {
+            kuj_save(lent.elements.pointer(), lent.control.pointer(), file.pointer(), room, &mut lent.beside)
+        };
+        let mut after = held.clone();
+        if let Ok(bytes) = &expected {
+            after[..bytes.len()].copy_from_slice(bytes);
+        }
+        let rest_same = lent.is_now(&state) && file.is_now(&after);
+        report.case("save", (number, lent.beside), answer(&expected, |_| 0), rest_same, || {
+            format!("room {room}; {}", controls_text(&state))
+        });
+
+        let bytes = saved_file(random);
+        let expected = load(&bytes);
+        let mut lent = LentState::new(&state);
+        let mut file = Lent::new(&bytes, 0xC3);
+        // SAFETY: as above.
+        let number = unsafe {
+            kuj_load(lent.elements.pointer(), lent.control.pointer(), file.pointer(), bytes.len(), &mut lent.beside)
+        };
+        let rest_same = lent.is_now(expected.as_ref().unwrap_or(&state)) && file.is_now(&bytes);
+        report.case("load", (number, lent.beside), answer(&expected, |_| 0), rest_same, || {
+            format!("a file of {} bytes", bytes.len())
+        });
+    }
+}
+
+fn compare_readings(random: &mut Random, cases: u64, report: &mut Report) {
+    const FIELDS: u64 = 32;
+    for _ in 0..cases.div_ceil(FIELDS) {
+        let mut state = state(random);
+        // More zeros and reserved operands than a run of instructions would want.
+        for register in state.registers.iter_mut() {
+            for element in register.iter_mut() {
+                if random.once_in(4) {
+                    *element = *element >> 32 << 32 | u64::from(exponent_zero(random));
+                }
+            }
+        }
+        let mut lent = LentState::new(&state);
+        for _ in 0..FIELDS {
+            let mut field =
+                |limit: u64| if random.once_in(24) { random.bits() as u8 } else { random.below(limit) as u8 };
+            let (register, element, kind) = (field(16), field(64), field(2));
+            let expected = reading(&state, register, element, kind);
+            let (mut kind_read, mut bits) = (UNWRITTEN, UNWRITTEN);
+            lent.beside = UNWRITTEN;
+            // SAFETY: as above.
+            let number = unsafe {
+                kuj_reading(
+                    lent.elements.pointer(),
+                    lent.control.pointer(),
+                    register,
+                    element,
+                    kind,
+                    &mut kind_read,
+                    &mut bits,
+                    &mut lent.beside,
+                )
+            };
+            let read = match expected {
+                Ok(Reading::Binary64(bits)) => (0, bits),
+                Ok(Reading::Longword(value)) => (1, u64::from(value as u32)),
+                Ok(Reading::Reserved(code)) => (2, u64::from(code)),
+                Err(_) => (UNWRITTEN, UNWRITTEN),
+            };
+            // Each kind of reading counts as a number of its own, from 100 on.
+            let expected_answer = answer(&expected, |_| 0);
+            let rest_same = (kind_read, bits) == read && lent.is_now(&state);
+            report.case("reading", (number, lent.beside), expected_answer, rest_same, || {
+                format!("V{register}[{element}] kind {kind}: read {kind_read} {bits:X}, expected {read:X?}")
+            });
+            if expected.is_ok() {
+                *report.numbers.get_mut("reading").unwrap().entry(100 + read.0 as u32).or_default() += 1;
+            }
+        }
+    }
+}
+
+type ReadCall = unsafe extern "C" fn(*const u64, *mut u64) -> u32;
+type WriteCall = unsafe extern "C" fn(*mut u64, u32, *mut u64) -> u32;
+
+const READS: [(&str, Control, ReadCall); 6] = [
+    ("read_vlr", Control::Vlr, kuj_read_vlr),
+    ("read_vcr", Control::Vcr, kuj_read_vcr),
+    ("read_vmr_low", Control::VmrLow, kuj_read_vmr_low),
+    ("read_vmr_high", Control::VmrHigh, kuj_read_vmr_high),
+    ("read_vaer", Control::Vaer, kuj_read_vaer),
+    ("read_vpsr", Control::Vpsr, kuj_read_vpsr),
+];
+
+const WRITES: [(&str, Control, WriteCall); 5] = [
+    ("write_vlr", Control::Vlr, kuj_write_vlr),
+    ("write_vcr", Control::Vcr, kuj_write_vcr),
+    ("write_vmr_low", Control::VmrLow, kuj_write_vmr_low),
+    ("write_vmr_high", Control::VmrHigh, kuj_write_vmr_high),
+    ("write_vpsr", Control::Vpsr, kuj_write_vpsr),
+];
+
+fn compare_control_moves(random: &mut Random, cases: u64, report: &mut Report) {
+    let bare = State::zero();
+    for _ in 0..cases {
+        let mut state = State { vlr: length(random), vmr: mask(random), vcr: length(random), ..bare.clone() };
+        state.vaer = random.bits() & VAER_BITS;
+        state.vpsr = random.pick(&[0, VEN, VEN, VEN, AEX, VEN | AEX]);
+        if random.once_in(16) {
+            break_range(random, &mut state);
+        }
+        for (name, control, call) in READS {
+            let mut lent = LentState::new(&state);
+            // SAFETY: the control has five numbers.
+            let number = unsafe { call(lent.control.pointer(), &mut lent.beside) };
+            let expected = answer(&read_control(&state, control), |&value| value);
+            let rest_same = lent.control.is_now(&control_of(&state));
+            report.case(name, (number, lent.beside), expected, rest_same, || controls_text(&state));
+        }
+        for (name, control, call) in WRITES {
+            let value = control_value(random);
+            let expected = write_control(&state, control, value);
+            let mut lent = LentState::new(&state);
+            // SAFETY: the control has five numbers.
+            let number = unsafe { call(lent.control.pointer(), value, &mut lent.beside) };
+            let rest_same = lent.control.is_now(&control_of(expected.as_ref().unwrap_or(&state)));
+            report.case(name, (number, lent.beside), answer(&expected, |_| 0), rest_same, || {
+                format!("value {value:08X}; {}", controls_text(&state))
+            });
+        }
+    }
+}
+
+/// The numbers each call can give; for readings also 100 and its kind.
+fn numbers_of(call: &str) -> &'static [u32] {
+    match call {
+        "execute" => &[0, 1, 2, 3, 4, 5, 6, 12],
+        "run" => &[0, 1, 2, 3, 7, 8, 12],
+        "run_order" => &[0, 1, 2, 3, 7, 8, 9, 12],
+        "save" => &[0, 10, 12],
+        "load" => &[0, 10],
+        "reading" => &[0, 12, 13, 100, 101, 102],
+        "read_vaer" | "read_vpsr" => &[0, 12],
+        "write_vlr" | "write_vcr" => &[0, 3, 11, 12],
+        "write_vpsr" => &[0, 11, 12],
+        _ => &[0, 3, 12],
+    }
+}
+
+fn main() -> ExitCode {
+    let arguments: Vec<u64> =
+        std::env::args().skip(1).map(|text| text.parse().expect("arguments are whole numbers")).collect();
+    let cases = arguments.first().copied().unwrap_or(20_000);
+    let seed = arguments.get(1).copied().unwrap_or(1);
+    println!("{cases} cases a call, seed {seed}");
+    let mut random = Random::new(seed);
+    let mut report = Report::default();
+    compare_control_moves(&mut random, cases, &mut report);
+    compare_execute(&mut random, cases, &mut report);
+    compare_run(&mut random, cases, &mut report);
+    compare_run_order(&mut random, cases.div_ceil(4), &mut report);
+    compare_files(&mut random, cases.div_ceil(4), &mut report);
+    compare_readings(&mut random, cases, &mut report);
+
+    let mut missing = 0;
+    for (call, numbers) in &report.numbers {
+        let counts: Vec<String> = numbers.iter().map(|(number, count)| format!("{number}: {count}")).collect();
+        println!("{call}: {}", counts.join(", "));
+        for number in numbers_of(call) {
+            if !numbers.contains_key(number) {
+                println!("{call} never came to {number}");
+                missing += 1;
+            }
+        }
+    }
+    println!("{} differ", report.differences);
+    let same = report.differences == 0 && missing == 0 && report.numbers.len() == READS.len() + WRITES.len() + 6;
+    println!("{}", if same { "SAME" } else { "DIFFERENT" });
+    if same {
+        ExitCode::SUCCESS
+    } else {
+        ExitCode::FAILURE
+    }
+}

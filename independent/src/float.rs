@@ -1,0 +1,373 @@
+//! Floating-point numbers of the VAX, worked out with whole numbers only (document 01, "What an
+//! element receives"). No machine floating-point type takes part in any result.
+//!
+//! Everything is over a `Format`; only F_floating is made.
+
+use crate::whole::Whole;
+use std::cmp::Ordering;
+
+/// VAER type bits (document 01: bits 0, 2, 3 and 5).
+pub const UNDERFLOW: u32 = 1;
+pub const RESERVED_OPERAND: u32 = 4;
+pub const OVERFLOW: u32 = 8;
+pub const INTEGER_OVERFLOW: u32 = 32;
+
+/// A format is its width in bits and how many of them are the exponent. In memory order the first
+/// 16-bit word holds the sign (<15>), the exponent and the top of the fraction; the following words
+/// hold the rest of the fraction, the most significant first.
+#[derive(Clone, Copy, Debug)]
+pub struct Format {
+    pub bits: u32,
+    pub exponent_bits: u32,
+}
+
+/// Sign <15>, exponent <14:7>, fraction <6:0> then <31:16>; excess 128, 24 significant bits.
+pub const F: Format = Format { bits: 32, exponent_bits: 8 };
+
+/// What the bits of an operand say.
+#[derive(Clone, Copy, PartialEq, Eq, Debug)]
+pub enum Operand {
+    Zero,
+    Reserved,
+    /// (-1)^negative * significand * 2^(exponent - excess - significant bits)
+    Number {
+        negative: bool,
+        exponent: u32,
+        significand: u64,
+    },
+}
+
+/// What an operation leaves: the bits written and the VAER type bits recorded.
+#[derive(Clone, Copy, PartialEq, Eq, Debug)]
+pub struct Outcome {
+    pub value: u64,
+    pub types: u32,
+}
+
+/// An exact value: (-1)^negative * size * 2^scale.
+#[derive(Clone, Copy, PartialEq, Eq, Debug)]
+struct Exact {
+    negative: bool,
+    size: Whole,
+    scale: i64,
+}
+
+/// Document 01's relations, by their number in <2:0> of the control word; None for 3 and 7.
+pub fn relation_holds(relation: u32, order: Ordering) -> Option<bool> {
+    match relation {
+        0 => Some(order == Ordering::Greater),
+        1 => Some(order == Ordering::Equal),
+        2 => Some(order == Ordering::Less),
+        4 => Some(order != Ordering::Greater),
+        5 => Some(order != Ordering::Equal),
+        6 => Some(order != Ordering::Less),
+        _ => None,
+    }
+}
+
+impl Format {
+    /// The bits after the leading one.
+    pub fn fraction_bits(&self) -> u32 {
+        self.bits - 1 - self.exponent_bits
+    }
+
+    /// The significant bits, the leading one included.
+    pub fn significant_bits(&self) -> u32 {
+        self.fraction_bits() + 1
+    }
+
+    pub fn excess(&self) -> i64 {
+        1 << (self.exponent_bits - 1)
+    }
+
+    /// Exponents run from 1 to this.
+    pub fn greatest_exponent(&self) -> u32 {
+        (1 << self.exponent_bits) - 1
+    }
+
+    /// The power of two of the last place of a number with exponent 1: every number of the format is
+    /// a whole number of these.
+    fn unit(&self) -> i64 {
+        1 - self.excess() - i64::from(self.significant_bits())
+    }
+
+    /// Turns the order of the 16-bit words round, so that sign, exponent and fraction follow each
+    /// other from the top. Its own inverse.
+    fn words_reversed(&self, bits: u64) -> u64 {
+        let words = self.bits / 16;
+        let mut out = 0;
+        for word in 0..words {
+            out = out << 16 | bits >> (16 * word) & 0xFFFF;
+        }
+        out
+    }
+
+    /// The bits of a number whose fields are given; the significand has its leading one.
+    pub fn assemble(&self, negative: bool, exponent: u32, significand: u64) -> u64 {
+        assert!(exponent >= 1 && exponent <= self.greatest_exponent());
+        assert!(significand >> self.fraction_bits() == 1);
+        let fraction = significand - (1 << self.fraction_bits());
+        let straight = u64::from(negative) << (self.bits - 1) | u64::from(exponent) << self.fraction_bits() | fraction;
+        self.words_reversed(straight)
+    }
+
+    pub fn operand(&self, bits: u64) -> Operand {
+        let straight = self.words_reversed(bits);
+        let negative = straight >> (self.bits - 1) & 1 == 1;
+        let exponent = (straight >> self.fraction_bits()) as u32 & self.greatest_exponent();
+        let fraction = straight & ((1 << self.fraction_bits()) - 1);
+        match (exponent, negative) {
+            (0, false) => Operand::Zero,
+            (0, true) => Operand::Reserved,
+            _ => Operand::Number { negative, exponent, significand: fraction + (1 << self.fraction_bits()) },
+        }
+    }
+
+    /// The exact value of an operand in units of the format; None for a reserved operand.
+    fn exact(&self, bits: u64) -> Option<Exact> {
+        match self.operand(bits) {
+            Operand::Reserved => None,
+            Operand::Zero => Some(Exact { negative: false, size: Whole::ZERO, scale: self.unit() }),
+            Operand::Number { negative, exponent, significand } => Some(Exact {
+                negative,
+                size: Whole::of(significand.into()).times_power_of_two(exponent - 1),
+                scale: self.unit(),
+            }),
+        }
+    }
+
+    fn exception(&self, types: u32) -> Outcome {
+        Outcome { value: 0x8000 + u64::from(types), types }
+    }
+
+    /// The exact value rounded to the format, halves away from zero.
+    fn rounded(&self, exact: Exact, exc: bool) -> Outcome {
+        if exact.size.is_zero() {
+            return Outcome { value: 0, types: 0 };
+        }
+        // The exact value is 0.1... * 2^power.
+        let digits = exact.size.digits();
+        let power = i64::from(digits) + exact.scale;
+        // Underflow: on the normalised exact value, before rounding.
+        if power + self.excess() < 1 {
+            return if exc { self.exception(UNDERFLOW) } else { Outcome { value: 0, types: 0 } };
+        }
+        let kept = self.significant_bits();
+        let (significand, exponent) = if digits <= kept {
+            (exact.size.low_64() << (kept - digits), power + self.excess())
+        } else {
+            let dropped = digits - kept;
+            let half = Whole::power_of_two(dropped - 1);
+            let nearest = exact.size.plus(&half).over_power_of_two(dropped).low_64();
+            if nearest == 1 << kept {
+                (nearest / 2, power + 1 + self.excess())
+            } else {
+                (nearest, power + self.excess())
+            }
+        };
+        // Overflow: after rounding.
+        if exponent > i64::from(self.greatest_exponent()) {
+            return self.exception(OVERFLOW);
+        }
+        Outcome { value: self.assemble(exact.negative, exponent as u32, significand), types: 0 }
+    }
+
+    pub fn add(&self, a: u64, b: u64, exc: bool) -> Outcome {
+        match (self.exact(a), self.exact(b)) {
+            (Some(a), Some(b)) => self.rounded(sum(a, b), exc),
+            _ => self.exception(RESERVED_OPERAND),
+        }
+    }
+
+    pub fn subtract(&self, a: u64, b: u64, exc: bool) -> Outcome {
+        match (self.exact(a), self.exact(b)) {
+            (Some(a), Some(b)) => self.rounded(sum(a, Exact { negative: !b.negative, ..b }), exc),
+            _ => self.exception(RESERVED_OPERAND),
+        }
+    }
+
+    pub fn multiply(&self, a: u64, b: u64, exc: bool) -> Outcome {
+        match (self.operand(a), self.operand(b)) {
+            (Operand::Reserved, _) | (_, Operand::Reserved) => self.exception(RESERVED_OPERAND),
+            (Operand::Zero, _) | (_, Operand::Zero) => Outcome { value: 0, types: 0 },
+            (
+                Operand::Number { negative: na, exponent: ea, significand: sa },
+                Operand::Number { negative: nb, exponent: eb, significand: sb },
+            ) => {
+                // A whole number of the unit's square.
+                let product = Whole::of(u128::from(sa) * u128::from(sb));
+                let size = product.times_power_of_two(ea - 1 + eb - 1);
+                self.rounded(Exact { negative: na != nb, size, scale: 2 * self.unit() }, exc)
+            }
+        }
+    }
+
+    /// The order of the values; None if either is a reserved operand.
+    pub fn order(&self, a: u64, b: u64) -> Option<Ordering> {
+        let (a, b) = (self.exact(a)?, self.exact(b)?);
+        Some(match (a.negative, b.negative) {
+            (false, false) => a.size.cmp(&b.size),
+            (true, true) => b.size.cmp(&a.size),
+            (false, true) => Ordering::Greater,
+            (true, false) => Ordering::Less,
+        })
+    }
+
+    /// The mask bit for a relation: clear for a reserved operand. None for the relations 3 and 7.
+    pub fn compare(&self, a: u64, b: u64, relation: u32) -> Option<Outcome> {
+        relation_holds(relation, Ordering::Equal)?;
+        match self.order(a, b) {
+            None => Some(Outcome { value: 0, types: RESERVED_OPERAND }),
+            Some(order) => Some(Outcome { value: relation_holds(relation, order)?.into(), types: 0 }),
+        }
+    }
+
+    /// To a longword: the size is rounded (halves up) or cut, and only then given its sign.
+    pub fn to_longword(&self, b: u64, rounded: bool, exc: bool) -> Outcome {
+        let Some(exact) = self.exact(b) else {
+            return Outcome { value: 0, types: RESERVED_OPERAND };
+        };
+        let places = (-exact.scale) as u32;
+        let half = if rounded { Whole::power_of_two(places - 1) } else { Whole::ZERO };
+        let size = exact.size.plus(&half).over_power_of_two(places);
+        let limit = Whole::power_of_two(31);
+        let fits = if exact.negative { size <= limit } else { size < limit };
+        let low = size.low_64() as u32;
+        let value = if exact.negative { low.wrapping_neg() } else { low };
+        Outcome { value: value.into(), types: if !fits && exc { INTEGER_OVERFLOW } else { 0 } }
+    }
+
+    /// From a longword: rounded where the format is too narrow; records nothing.
+    pub fn from_longword(&self, b: u32) -> Outcome {
+        let number = i128::from(b as i32);
+        let places = (-self.unit()) as u32;
+        let size = Whole::of(number.unsigned_abs()).times_power_of_two(places);
+        self.rounded(Exact { negative: number < 0, size, scale: self.unit() }, false)
+    }
+
+    /// The bits of the binary64 number with exactly this value; None for a reserved operand.
+    /// Zero is positive. (For a format whose numbers are all normal binary64 numbers, as F's are.)
+    pub fn binary64(&self, bits: u64) -> Option<u64> {
+        match self.operand(bits) {
+            Operand::Reserved => None,
+            Operand::Zero => Some(0),
+            Operand::Number { negative, exponent, significand } => {
+                // 0.1f * 2^p is 1.f * 2^(p-1), which binary64 writes with exponent p - 1 + 1023.
+                let biased = i64::from(exponent) - self.excess() - 1 + 1023;
+                assert!((1..=2046).contains(&biased) && self.fraction_bits() <= 52);
+                let fraction = significand - (1 << self.fraction_bits());
+                Some(u64::from(negative) << 63 | (biased as u64) << 52 | fraction << (52 - self.fraction_bits()))
+            }
+        }
+    }
+}
+
+fn sum(a: Exact, b: Exact) -> Exact {
+    assert_eq!(a.scale, b.scale);
+    let (negative, size) = if a.negative == b.negative {
+        (a.negative, a.size.plus(&b.size))
+    } else if a.size >= b.size {
+        (a.negative, a.size.minus(&b.size))
+    } else {
+        (b.negative, b.size.minus(&a.size))
+    };
+    Exact { negative, size, scale: a.scale }
+}
+
+#[cfg(test)]
+mod tests {
+    use super::*;
+
+    fn f(value: u64, types: u32) -> Outcome {
+        Outcome { value, types }
+    }
+
+    #[test]
+    fn format_of_f() {
+        assert_eq!((F.significant_bits(), F.excess(), F.greatest_exponent()), (24, 128, 255));
+        // <6:0> is the top of the fraction and <31:16> the rest.
+        assert_eq!(F.operand(0x0000_4080), Operand::Number { negative: false, exponent: 129, significand: 0x80_0000 });
+        assert_eq!(F.operand(0x0001_40C0), Operand::Number { negative: false, exponent: 129, significand: 0xC0_0001 });
+    }
+
+    #[test]
+    fn examples_4_to_9() {
+        for exc in [false, true] {
+            assert_eq!(F.add(0x4080, 0x4080, exc), f(0x4100, 0));
+            assert_eq!(F.add(0xFFFF_7FFF, 0xFFFF_7FFF, exc), f(0x8008, OVERFLOW));
+        }
+        assert_eq!(F.multiply(0x0080, 0x4000, false), f(0, 0));
+        assert_eq!(F.multiply(0x0080, 0x4000, true), f(0x8001, UNDERFLOW));
+        assert_eq!(F.from_longword(16_777_217), f(0x0001_4C80, 0));
+        assert_eq!(F.to_longword(0x4120, true, true), f(3, 0));
+        assert_eq!(F.to_longword(0x4120, false, true), f(2, 0));
+        assert_eq!(F.to_longword(0xC120, false, true), f(0xFFFF_FFFE, 0));
+        assert_eq!(F.to_longword(0x5000, true, true), f(0x8000_0000, INTEGER_OVERFLOW));
+        assert_eq!(F.to_longword(0xD000, true, true), f(0x8000_0000, 0));
+        assert_eq!(F.to_longword(0x5000, true, false), f(0x8000_0000, 0));
+    }
+
+    #[test]
+    fn halves_go_away_from_zero() {
+        // 2.5 and -2.5 rounded.
+        assert_eq!(F.to_longword(0x4120, true, true).value, 3);
+        assert_eq!(F.to_longword(0xC120, true, true).value, 0xFFFF_FFFD);
+        // 2^24 + 1 lies half way; to even would keep 2^24.
+        assert_eq!(F.from_longword(0x0100_0001).value, 0x0001_4C80);
+        assert_eq!(F.from_longword(0xFEFF_FFFF).value, 0x0001_CC80);
+        // 1 + 2^-24 lies half way between 1 and the next number.
+        assert_eq!(F.add(0x4080, 0x3480, true), f(0x0001_4080, 0));
+        // 1 - 2^-25 does too, one binade lower.
+        assert_eq!(F.subtract(0x4080, 0x3400, true), f(0x4080, 0));
+    }
+
+    #[test]
+    fn zeros_and_reserved_operands() {
+        let (dirty, reserved) = (0xFFFF_007F, 0x0012_8034);
+        assert_eq!(F.add(dirty, dirty, true), f(0, 0));
+        assert_eq!(F.add(dirty, 0x4080, true), f(0x4080, 0));
+        assert_eq!(F.multiply(dirty, 0x4080, true), f(0, 0));
+        assert_eq!(F.multiply(dirty, reserved, true), f(0x8004, RESERVED_OPERAND));
+        assert_eq!(F.subtract(0x4080, 0x4080, true), f(0, 0));
+        assert_eq!(F.compare(dirty, 0, 1), Some(f(1, 0)));
+        assert_eq!(F.compare(dirty, 0xC080, 0), Some(f(1, 0)));
+        for relation in [0, 1, 2, 4, 5, 6] {
+            assert_eq!(F.compare(reserved, 0, relation), Some(f(0, RESERVED_OPERAND)));
+        }
+        assert_eq!((F.compare(0, 0, 3), F.compare(0, 0, 7)), (None, None));
+        assert_eq!(F.to_longword(reserved, true, true), f(0, RESERVED_OPERAND));
+        assert_eq!(F.binary64(dirty), Some(0));
+        assert_eq!(F.binary64(reserved), None);
+    }
+
+    #[test]
+    fn underflow_is_judged_before_rounding() {
+        // The exact product lies just below the smallest number and would round up to it.
+        assert_eq!(F.multiply(0xFFFE_407F, 0x0001_0080, true), f(0x8001, UNDERFLOW));
+        assert_eq!(F.multiply(0xFFFE_407F, 0x0001_0080, false), f(0, 0));
+        // Overflow after rounding: a carry into exponent 256.
+        assert_eq!(F.add(0xFFFF_7FFF, 0x7380, true), f(0x8008, OVERFLOW));
+        assert_eq!(F.add(0xFFFF_7FFF, 0x7300, true), f(0xFFFF_7FFF, 0));
+    }
+
+    #[test]
+    fn f_to_longword_for_great_exponents() {
+        // 2^32 and above: the low 32 bits of the true result.
+        assert_eq!(F.to_longword(0x5080, false, true), f(0, INTEGER_OVERFLOW));
+        assert_eq!(F.to_longword(0x0001_5080, false, true), f(512, INTEGER_OVERFLOW));
+        assert_eq!(F.to_longword(0x0001_D080, false, false), f(0xFFFF_FE00, 0));
+        assert_eq!(F.to_longword(0xFFFF_7FFF, true, true), f(0, INTEGER_OVERFLOW));
+    }
+
+    /// Here the machine's own binary64 is only a second opinion on the reading.
+    #[test]
+    fn readings_equal_scaled_whole_numbers() {
+        let words = [0x0080, 0x8080, 0x4080, 0xC0C0, 0xFFFF_7FFF, 0xFFFF_FFFF, 0x0001_0080, 0x1234_5678, 0xFEDC_BA98];
+        for bits in words {
+            let Operand::Number { negative, exponent, significand } = F.operand(bits) else { panic!() };
+            let size = significand as f64 * 2f64.powi(exponent as i32 - 128 - 24);
+            let value = if negative { -size } else { size };
+            assert_eq!(F.binary64(bits), Some(value.to_bits()), "{bits:08X}");
+        }
+    }
+}

@@ -1,0 +1,766 @@
+//! Edge-biased inputs for comparisons: operands, states, instructions, memory, queues with lists, and
+//! saved files. Everything is a function of the generator it is handed.
+
+use crate::float::F;
+use crate::machine::*;
+use crate::queue::{steps, Place, Queue, Step};
+use crate::random::Random;
+use crate::saved::{contents, file_of, FILE_BYTES, RECORDS};
+
+// ------------------------------------------------------------------------------------------ Operands
+
+/// A 24-bit significand with its leading one.
+fn significand(random: &mut Random) -> u64 {
+    const TOP: u64 = 1 << 23;
+    TOP | match random.below(10) {
+        0 => 0,
+        1 => 1,
+        2 => TOP - 1,
+        3 => TOP - 2,
+        4 => TOP >> 1,
+        5 => 1 << random.below(23),
+        6 => (1 << random.below(24)) - 1,
+        7 => (TOP - 1) & !((1 << random.below(24)) - 1),
+        _ => random.below(TOP),
+    }
+}
+
+fn exponent(random: &mut Random) -> u64 {
+    match random.below(6) {
+        0 => random.between(1, 4),
+        1 => random.between(252, 255),
+        2 => random.between(104, 162),
+        3 => random.between(126, 131),
+        _ => random.between(1, 255),
+    }
+}
+
+/// Zero, clean or dirty, or a reserved operand.
+pub fn exponent_zero(random: &mut Random) -> u32 {
+    let fraction = match random.below(4) {
+        0 => 0,
+        1 => 0xFFFF_007F,
+        2 => 1 << random.pick(&[0, 1, 2, 3, 4, 5, 6, 16, 17, 31]),
+        _ => random.bits() as u32 & 0xFFFF_007F,
+    };
+    u32::from(random.flip()) << 15 | fraction
+}
+
+fn number(negative: bool, exponent: i64, significand: u64) -> u32 {
+    F.assemble(negative, exponent.clamp(1, 255) as u32, significand) as u32
+}
+
+pub fn f_operand(random: &mut Random) -> u32 {
+    match random.below(16) {
+        0 => exponent_zero(random),
+        1 => random.bits() as u32,
+        _ => number(random.flip(), exponent(random) as i64, significand(random)),
+    }
+}
+
+/// Two operands that often lie near each other, near a half way case, or near the ends of the range.
+pub fn f_pair(random: &mut Random) -> (u32, u32) {
+    let (ea, sa) = (exponent(random) as i64, significand(random));
+    let a = number(random.flip(), ea, sa);
+    let sign = random.flip();
+    let (a, b) = match random.below(10) {
+        // Exponents close together, or a little more than the width apart: sums and cancellations.
+        0 | 1 => (a, number(sign, ea - random.below(28) as i64, significand(random))),
+        // The same or a neighbouring size.
+        2 => (a, number(sign, ea, ((sa ^ random.below(4)) & 0xFF_FFFF) | 1 << 23)),
+        3 => (a, a ^ u32::from(random.flip()) << 15),
+        // A product near the smallest and near the greatest number.
+        4 => (a, number(sign, 129 - ea + random.between(0, 4) as i64 - 2, significand(random))),
+        5 => (a, number(sign, 384 - ea + random.between(0, 4) as i64 - 2, significand(random))),
+        // A product whose exact value lies just below a power of two: (2^24 - k) * (2^23 + j), and the
+        // exponents of the smallest number as often as not.
+        6 => {
+            let (k, j) = (random.between(1, 6), random.between(0, 6));
+            let ea = if random.flip() { random.between(1, 128) as i64 } else { ea };
+            let eb = if random.flip() { 129 - ea } else { exponent(random) as i64 };
+            let (x, y) = (number(random.flip(), ea, (1 << 24) - k), number(sign, eb, (1 << 23) + j));
+            if random.flip() {
+                (x, y)
+            } else {
+                (y, x)
+            }
+        }
+        // A sum half way between two numbers: b is half of a's last place, or a little off.
+        7 => (a, number(sign, ea - 24, random.pick(&[1 << 23, (1 << 23) + 1, (1 << 24) - 1]))),
+        8 => (f_operand(random), f_operand(random)),
+        _ => (a, f_operand(random)),
+    };
+    if random.flip() {
+        (a, b)
+    } else {
+        (b, a)
+    }
+}
+
+pub fn longword(random: &mut Random) -> u32 {
+    match random.below(8) {
+        0 => random.pick(&[0, 1, 2, 0x7FFF_FFFF, 0x8000_0000, 0x8000_0001, 0xFFFF_FFFF, 0xFFFF_FFFE]),
+        1 => 1u32 << random.below(32),
+        2 => ((1u64 << random.below(33)) - 1) as u32,
+        3 => (random.bits() as u32) >> random.below(32),
+        4 => !((random.bits() as u32) >> random.below(32)),
+        // 25 digits with the last one set: half way between two F numbers, of either sign.
+        5 => {
+            let half_way = (1u32 << 24 | random.below(1 << 24) as u32 | 1) << random.below(7);
+            if random.flip() {
+                half_way
+            } else {
+                half_way.wrapping_neg()
+            }
+        }
+        _ => random.bits() as u32,
+    }
+}
+
+/// F operands whose conversion to a longword is near a half, near a whole number or near the limits.
+pub fn f_for_longword(random: &mut Random) -> u32 {
+    match random.below(6) {
+        0 => number(random.flip(), random.between(126, 162) as i64, significand(random)),
+        // A whole number and a half: the digit after the point is the last one set.
+        1 => {
+            let digits = random.between(1, 23);
+            let kept = (1 << 23 | random.below(1 << 23)) >> (23 - digits) << (23 - digits) | 1 << (23 - digits);
+            number(random.flip(), 128 + digits as i64, kept)
+        }
+        2 => number(random.flip(), random.between(157, 163) as i64, significand(random)),
+        _ => f_operand(random),
+    }
+}
+
+// -------------------------------------------------------------------------------------------- States
+
+/// A 64-bit element: a longword or an F operand, with something in the high half.
+pub fn element(random: &mut Random) -> u64 {
+    let low = match random.below(3) {
+        0 => longword(random),
+        1 => f_operand(random),
+        _ => f_for_longword(random),
+    };
+    let high = match random.below(3) {
+        0 => 0,
+        1 => 0xFFFF_FFFF,
+        _ => random.bits() >> 32,
+    };
+    high << 32 | u64::from(low)
+}
+
+pub fn mask(random: &mut Random) -> u64 {
+    match random.below(6) {
+        0 => 0,
+        1 => u64::MAX,
+        2 => 1 << random.below(64),
+        3 => 0xAAAA_AAAA_AAAA_AAAA,
+        _ => random.bits(),
+    }
+}
+
+pub fn length(random: &mut Random) -> u64 {
+    match random.below(6) {
+        0 => random.pick(&[0, 1, 63, 64]),
+        1 => random.between(2, 9),
+        _ => random.between(0, 64),
+    }
+}
+
+/// A state in range. VEN is set, but rarely not.
+pub fn state_in_range(random: &mut Random) -> State {
+    let mut state = State::zero();
+    let sparse = random.once_in(4);
+    for register in state.registers.iter_mut() {
+        for slot in register.iter_mut() {
+            if !sparse || random.once_in(8) {
+                *slot = element(random);
+            }
+        }
+    }
+    state.vlr = length(random);
+    state.vmr = mask(random);
+    state.vcr = length(random);
+    state.vaer = if random.flip() { 0 } else { random.bits() & VAER_BITS };
+    let ven = if random.once_in(16) { 0 } else { VEN };
+    let aex = if random.once_in(4) { AEX } else { 0 };
+    state.vpsr = ven | aex;
+    state
+}
+
+/// Puts one control out of range.
+pub fn break_range(random: &mut Random, state: &mut State) {
+    let outside = |random: &mut Random, bits: u64| 1u64 << random.pick(&places_outside(bits));
+    match random.below(4) {
+        0 => state.vlr = too_long(random),
+        1 => state.vcr = too_long(random),
+        2 => state.vaer |= outside(random, VAER_BITS),
+        _ => state.vpsr |= outside(random, VPSR_BITS),
+    }
+    assert!(!state.in_range());
+}
+
+fn places_outside(bits: u64) -> Vec<u32> {
+    (0..64).filter(|place| bits >> place & 1 == 0).collect()
+}
+
+fn too_long(random: &mut Random) -> u64 {
+    match random.below(4) {
+        0 => 65,
+        1 => random.pick(&[66, 127, 128, 256, 1 << 32, 1 << 32 | 64, u64::MAX]),
+        2 => random.bits() | 1 << random.between(7, 63),
+        _ => random.between(65, 300),
+    }
+}
+
+/// A state that is out of range once in 32.
+pub fn state(random: &mut Random) -> State {
+    let mut state = state_in_range(random);
+    if random.once_in(32) {
+        break_range(random, &mut state);
+    }
+    state
+}
+
+/// VPSR values, register values and mask halves for the control moves.
+pub fn control_value(random: &mut Random) -> u32 {
+    match random.below(6) {
+        0 => random.between(0, 70) as u32,
+        1 => random.bits() as u32 & 0x8300_00EF,
+        2 => random.bits() as u32 & 0x0000_008F,
+        3 => 1 << random.below(32),
+        4 => random.pick(&[0, 1, 2, 3, 4, 8, 9]) | random.bits() as u32 & 0x8300_00E0,
+        _ => random.bits() as u32,
+    }
+}
+
+// -------------------------------------------------------------------------------------- Instructions
+
+pub fn accepted_opcodes(memory: bool) -> Vec<u8> {
+    (0..=255).filter(|&opcode| work_of(opcode).is_some_and(|work| work.is_memory() == memory)).collect()
+}
+
+/// A control word for an opcode. Register numbers come from few registers, so that they often meet;
+/// the relation or conversion is accepted unless `reserved` is asked for.
+pub fn control_word(random: &mut Random, opcode: u8, reserved: bool) -> u16 {
+    let registers = random.pick(&[2, 4, 16]);
+    let high = (random.bits() as u16 & 0xF) << 12;
+    let mut nibble = || random.below(registers) as u16;
+    let (mut va, vb, mut vc) = (nibble(), nibble(), nibble());
+    match work_of(opcode) {
+        Some(Work::CompareL) if reserved => vc = random.pick(&[3, 7, 11, 15]),
+        Some(Work::CompareL) => vc = random.pick(&[0, 1, 2, 4, 5, 6, 8, 9, 10, 12, 13, 14]),
+        Some(Work::CompareF) if reserved => vc = random.pick(&[3, 7, 8, 9, 10, 11, 12, 13, 14, 15]),
+        Some(Work::CompareF) => vc = random.pick(&[0, 1, 2, 4, 5, 6]),
+        Some(Work::Convert) if reserved => va = random.pick(&[0, 2, 3, 6, 7, 8, 9, 10, 11, 12, 13, 14, 15]),
+        Some(Work::Convert) => va = random.pick(&[1, 4, 5]),
+        Some(Work::Gather { .. }) if reserved => vc = vb,
+        Some(Work::Gather { .. }) if vb == vc => vc = (vb + 1) % 16,
+        _ => {}
+    }
+    high | va << 8 | vb << 4 | vc
+}
+
+pub fn scalar(random: &mut Random) -> u64 {
+    if random.once_in(4) {
+        random.below(64)
+    } else {
+        element(random)
+    }
+}
+
+/// An instruction for an opcode, whose control word is reserved once in 16 where it can be.
+pub fn instruction(random: &mut Random, opcode: u8) -> Instruction {
+    let reserved = random.once_in(16);
+    Instruction { opcode, control_word: control_word(random, opcode, reserved), scalar: scalar(random) }
+}
+
+// -------------------------------------------------------------------------------------------- Memory
+
+/// Bytes before and after a window that no call may touch.
+pub const GUARD: usize = 64;
+
+/// Base, stride and a window that the elements hit as often as not. Vb of the state, for gathers and
+/// scatters, is filled with offsets to suit.
+pub fn memory(random: &mut Random, decoded: &Decoded, state: &mut State) -> Memory {
+    let bytes = match decoded.work {
+        Work::Load { bytes } | Work::Gather { bytes } | Work::Store { bytes } | Work::Scatter { bytes } => bytes as u64,
+        _ => 4,
+    };
+    let length = match random.below(8) {
+        0 => 0,
+        1 => random.between(1, 40),
+        2 => 65_536 - random.below(9),
+        3 => 65_536 + random.below(3),
+        _ => random.between(bytes, 1_200),
+    };
+    let top = 1u64 << 32;
+    let origin = match random.below(8) {
+        0 => 0,
+        1 => top.saturating_sub(length) / 8 * 8,
+        2 => (top - length + 8).min(top) / 8 * 8,
+        3 => random.pick(&[4, 1, 1 << 32, 1 << 33, u64::MAX, u64::MAX - 7]),
+        _ => random.below(1 << 28) * 8,
+    };
+    let mut window = vec![0; length as usize];
+    window.iter_mut().for_each(|byte| *byte = random.bits() as u8);
+    // Strides: small multiples of the size, negative ones, 0, and now and then anything.
+    let slot = |random: &mut Random| random.below(length / bytes + 1) * bytes;
+    let (mut base, mut stride) = (origin as u32, bytes as u32);
+    match random.below(8) {
+        0 => stride = 0,
+        1 => {
+            stride = (bytes as u32).wrapping_neg();
+            base = base.wrapping_add((length / bytes).saturating_sub(1) as u32 * bytes as u32);
+        }
+        2 => stride = random.pick(&[1, 2, 3, 6, 12, 0x8000_0000, 0xFFFF_FFFF]),
+        3 => stride = random.bits() as u32,
+        4 => stride = bytes as u32 * random.between(2, 5) as u32,
+        _ => {}
+    }
+    if random.once_in(3) {
+        base = base.wrapping_add(slot(random) as u32);
+    }
+    if random.once_in(8) {
+        base = base.wrapping_add(random.between(1, 7) as u32);
+    }
+    if matches!(decoded.work, Work::Gather { .. } | Work::Scatter { .. }) {
+        let wanders = random.once_in(3);
+        for element in 0..ELEMENTS {
+            // An offset from the base to a place in the window, modulo 2^32.
+            let mut at = (origin as u32).wrapping_add(random.below((length / bytes).max(1)) as u32 * bytes as u32);
+            if wanders && random.once_in(40) {
+                at = at.wrapping_add(random.pick(&[1, 2, 4, 0x1_0000, 0xFFFF_FFF8]));
+            }
+            let high = state.registers[decoded.vb][element] >> 32 << 32;
+            state.registers[decoded.vb][element] = high | u64::from(at.wrapping_sub(base));
+        }
+    }
+    Memory { base, stride, window, origin }
+}
+
+// ---------------------------------------------------------------------------------- Queues and lists
+
+/// An accepted queue. Few registers, many compares, IOTAs and masked instructions, so that steps meet.
+pub fn queue(random: &mut Random) -> Vec<Instruction> {
+    let operate = accepted_opcodes(false);
+    let length = match random.below(8) {
+        0 => random.below(2),
+        1 => 16,
+        _ => random.between(2, 8),
+    };
+    // At times a queue of little but IOTAs, compares and merges: bound by VMR and VCR alone.
+    let favoured: &[u8] = match random.below(3) {
+        0 => &[0xED, 0xC1, 0xEF],
+        1 => &[0xED, 0xED, 0x81],
+        _ => &[0xC0, 0xC1, 0xC4, 0xED, 0xEE, 0xEF, 0x81, 0xA4],
+    };
+    let often = random.pick(&[2, 3, 6]);
+    (0..length)
+        .map(|_| {
+            let opcode = if !random.once_in(often) { random.pick(favoured) } else { random.pick(&operate) };
+            Instruction { opcode, control_word: control_word(random, opcode, false), scalar: scalar(random) }
+        })
+        .collect()
+}
+
+/// A queue as it is handed in: now and then with a memory or reserved opcode, a reserved control word,
+/// more than 16 instructions, or parts of unequal length.
+pub fn any_queue(random: &mut Random) -> Queue {
+    let mut instructions = queue(random);
+    if random.once_in(10) && !instructions.is_empty() {
+        let at = random.below(instructions.len() as u64) as usize;
+        instructions[at] = match random.below(3) {
+            0 => {
+                let opcode = random.pick(&accepted_opcodes(true));
+                instruction(random, opcode)
+            }
+            1 => {
+                let opcode = random.bits() as u8;
+                instruction(random, opcode)
+            }
+            _ => {
+                let opcode = random.pick(&[0xC0, 0xC1, 0xC4, 0xC5, 0xEC]);
+                Instruction { opcode, control_word: control_word(random, opcode, true), scalar: 0 }
+            }
+        };
+    }
+    if random.once_in(40) {
+        let extra = Instruction { opcode: random.bits() as u8, control_word: 0, scalar: 0 };
+        instructions.resize(17 + random.below(3) as usize, extra);
+    }
+    let mut queue = Queue::of(&instructions);
+    if random.once_in(40) {
+        match random.below(4) {
+            0 => queue.control_words.push(0),
+            1 => queue.scalars.push(0),
+            2 => queue.opcodes.push(0x80),
+            _ => drop(queue.scalars.pop()),
+        }
+    }
+    queue
+}
+
+/// A permitted list: steps in an order drawn at random from those that the bindings allow.
+pub fn permitted_order(random: &mut Random, instructions: &[Decoded], vlr: usize) -> Vec<u64> {
+    let all = steps(instructions, vlr);
+    // A high rank is held back as long as it may be; ranks by element, by position, or by neither.
+    let fashion = random.below(4);
+    let ranks: Vec<u64> = all
+        .iter()
+        .map(|step| match fashion {
+            0 => random.bits(),
+            1 => step.element as u64 * 64 + (16 - step.position as u64),
+            2 => 1_000 - step.entry().min(1_000),
+            _ => (step.position as u64 % 2) * 64 + random.below(64),
+        })
+        .collect();
+    topological(&all, &bindings(&all), &ranks)
+}
+
+/// Pairs (earlier, later) of indices of steps, the later of which must follow the earlier.
+fn bindings(all: &[Step]) -> Vec<(usize, usize)> {
+    let mut pairs = Vec::new();
+    for (later, step) in all.iter().enumerate() {
+        for (earlier, other) in all.iter().enumerate() {
+            if step.must_follow(other) {
+                pairs.push((earlier, later));
+            }
+        }
+    }
+    pairs
+}
+
+/// The steps in an order that the bindings given allow; of those that may come, the lowest rank first.
+fn topological(all: &[Step], bindings: &[(usize, usize)], ranks: &[u64]) -> Vec<u64> {
+    let mut waits_for: Vec<usize> = vec![0; all.len()];
+    let mut releases: Vec<Vec<usize>> = vec![Vec::new(); all.len()];
+    for &(earlier, later) in bindings {
+        waits_for[later] += 1;
+        releases[earlier].push(later);
+    }
+    let mut ready: Vec<usize> = (0..all.len()).filter(|&i| waits_for[i] == 0).collect();
+    let mut order = Vec::new();
+    while !ready.is_empty() {
+        let next = (0..ready.len()).min_by_key(|&k| ranks[ready[k]]).expect("some step is ready");
+        let i = ready.swap_remove(next);
+        order.push(all[i].entry());
+        for &j in &releases[i] {
+            waits_for[j] -= 1;
+            if waits_for[j] == 0 {
+                ready.push(j);
+            }
+        }
+    }
+    order
+}
+
+/// Which places bind two steps: element, mask bit or count, each by write and write, read and write,
+/// or write and read. Bits of a small number.
+fn kind_of_binding(earlier: &Step, later: &Step) -> u32 {
+    let mut kind = 0;
+    let ways = [(&earlier.writes, &later.writes), (&earlier.reads, &later.writes), (&earlier.writes, &later.reads)];
+    for (way, (some, others)) in ways.into_iter().enumerate() {
+        for place in some {
+            if others.contains(place) {
+                let sort = match place {
+                    Place::Element { .. } => 0,
+                    Place::MaskBit(_) => 1,
+                    Place::Count => 2,
+                };
+                kind |= 1 << (3 * way + sort);
+            }
+        }
+    }
+    kind
+}
+
+/// A list that goes against one binding and, where it can be, against no other: a check that lacks
+/// that one way of being bound takes the list for a permitted one. None if nothing is bound.
+///
+/// The kind of binding is drawn before the pair, since some kinds are rare.
+pub fn order_against_one_binding(random: &mut Random, instructions: &[Decoded], vlr: usize) -> Option<Vec<u64>> {
+    let all = steps(instructions, vlr);
+    let pairs = bindings(&all);
+    let mut kinds: Vec<u32> = pairs.iter().map(|&(i, j)| kind_of_binding(&all[i], &all[j])).collect();
+    let kind_of_pair = kinds.clone();
+    kinds.sort();
+    kinds.dedup();
+    if kinds.is_empty() {
+        return None;
+    }
+    let kind = random.pick(&kinds);
+    let of_kind: Vec<(usize, usize)> =
+        pairs.iter().zip(&kind_of_pair).filter(|(_, &k)| k == kind).map(|(&pair, _)| pair).collect();
+    let broken = random.pick(&of_kind);
+    let kept: Vec<(usize, usize)> = pairs.into_iter().filter(|&pair| pair != broken).collect();
+    // What the later step waits for comes first, then that step; the earlier one comes as late as it may.
+    let mut first = vec![false; all.len()];
+    first[broken.1] = true;
+    for &(earlier, later) in kept.iter().rev() {
+        first[earlier] |= first[later];
+    }
+    let ranks: Vec<u64> = (0..all.len())
+        .map(|i| match i {
+            _ if i == broken.0 => u64::MAX,
+            _ if first[i] => random.below(1_000),
+            _ => 1_000 + random.below(1_000),
+        })
+        .collect();
+    Some(topological(&all, &kept, &ranks))
+}
+
+/// A list with one fault or a few: a swap, a repeat, an omission, an entry that is no step, an extra.
+/// (A swap may leave the list permitted.)
+pub fn damage_order(random: &mut Random, order: &mut Vec<u64>) {
+    let at = |random: &mut Random, order: &[u64]| random.below(order.len() as u64) as usize;
+    let no_step = |random: &mut Random| match random.below(4) {
+        0 => random.below(1_100),
+        1 => random.pick(&[1_024, 65_535, 65_536, 1 << 32, 1 << 63, u64::MAX]),
+        2 => random.bits(),
+        _ => 1 << 32 | random.below(64),
+    };
+    if order.is_empty() {
+        order.push(no_step(random));
+        return;
+    }
+    match random.below(6) {
+        0 => {
+            let (i, j) = (at(random, order), at(random, order));
+            order.swap(i, j);
+        }
+        1 => {
+            let i = at(random, order);
+            let next = (i + 1) % order.len();
+            order.swap(i, next);
+        }
+        2 => {
+            let (i, j) = (at(random, order), at(random, order));
+            order[i] = order[j];
+        }
+        3 => {
+            let i = at(random, order);
+            order.remove(i);
+        }
+        4 => {
+            let i = at(random, order);
+            order[i] = no_step(random);
+        }
+        _ => {
+            let (i, entry) = (random.below(order.len() as u64 + 1) as usize, no_step(random));
+            order.insert(i, entry);
+        }
+    }
+}
+
+// --------------------------------------------------------------------------------------- Saved files
+
+/// A file of a state in range, damaged more often than not: a byte, a filler, a record number, the
+/// length, or a control out of range.
+pub fn saved_file(random: &mut Random) -> Vec<u8> {
+    let mut state = state_in_range(random);
+    if random.once_in(4) {
+        break_range(random, &mut state);
+    }
+    let mut file = file_of(&contents(&state));
+    for _ in 0..random.below(3) {
+        let record = match random.below(3) {
+            0 => random.between(1_020, 1_028),
+            _ => random.below(RECORDS as u64),
+        } as usize;
+        let byte = record * 16 + random.below(16) as usize;
+        if byte >= file.len() {
+            continue;
+        }
+        match random.below(5) {
+            0 => file[byte] ^= 1 << random.below(8),
+            1 => file[record * 16 + random.between(2, 7) as usize] = random.bits() as u8,
+            2 => file[record * 16 + random.below(2) as usize] ^= 1 << random.below(8),
+            3 => file.truncate(byte),
+            _ => file.extend(vec![0; random.between(1, 33) as usize]),
+        }
+        if record * 16 + 16 > file.len() {
+            break;
+        }
+    }
+    file
+}
+
+/// Room to save into: enough, one byte short, none, or more.
+pub fn room(random: &mut Random) -> usize {
+    match random.below(6) {
+        0 => FILE_BYTES - 1,
+        1 => random.below(FILE_BYTES as u64) as usize,
+        2 => FILE_BYTES + random.below(40) as usize,
+        3 => random.below(40) as usize,
+        _ => FILE_BYTES,
+    }
+}
+
+#[cfg(test)]
+mod tests {
+    use super::*;
+    use crate::queue::{accept, first_bad_entry, run, run_order};
+    use std::collections::BTreeSet;
+
+    #[test]
+    fn permitted_orders_end_as_the_straight_run() {
+        let mut random = Random::new(7);
+        let (mut exceptions, mut shuffled) = (0, 0);
+        for _ in 0..300 {
+            let mut state = state_in_range(&mut random);
+            state.vpsr |= VEN;
+            let queue = Queue::of(&queue(&mut random));
+            let instructions = accept(&state, &queue).unwrap();
+            let order = permitted_order(&mut random, &instructions, state.vlr as usize);
+            let straight = run(&state, &queue).unwrap();
+            exceptions += usize::from(straight.vpsr & VEN == 0);
+            shuffled += usize::from(order.windows(2).any(|pair| pair[0] > pair[1]));
+            assert_eq!(run_order(&state, &queue, &order), Ok(straight));
+        }
+        assert!(exceptions > 50 && shuffled > 100, "{exceptions} {shuffled}");
+    }
+
+    /// Each way of being bound that document 01 knows is gone against alone: the list is refused, and
+    /// would be permitted if the pair were not bound.
+    #[test]
+    fn single_bindings_are_gone_against() {
+        let mut random = Random::new(12);
+        let mut alone = BTreeSet::new();
+        for _ in 0..600 {
+            let mut state = state_in_range(&mut random);
+            state.vpsr |= VEN;
+            state.vlr = random.below(9);
+            let queue = Queue::of(&queue(&mut random));
+            let instructions = accept(&state, &queue).unwrap();
+            let vlr = state.vlr as usize;
+            let Some(order) = order_against_one_binding(&mut random, &instructions, vlr) else { continue };
+            let all = steps(&instructions, vlr);
+            assert_eq!(order.len(), all.len());
+            let at = |i: usize| order.iter().position(|&entry| entry == all[i].entry()).unwrap();
+            let against: Vec<_> = bindings(&all).into_iter().filter(|&(i, j)| at(i) > at(j)).collect();
+            if let [(i, j)] = against[..] {
+                assert_eq!(first_bad_entry(&all, &order), Some(at(j)));
+                alone.insert(kind_of_binding(&all[i], &all[j]));
+            }
+        }
+        // Element, mask bit and count; write and write, read and write, write and read (2^8 would be a
+        // read of the count, and 2^5 one before its write: nothing reads it).
+        for kind in [1 << 0, 1 << 1, 1 << 2, 1 << 3, 1 << 4, 1 << 6, 1 << 7] {
+            assert!(alone.contains(&kind), "no list went against {kind:b} alone: {alone:?}");
+        }
+    }
+
+    #[test]
+    fn damaged_orders_are_mostly_refused_anywhere() {
+        let mut random = Random::new(8);
+        let mut positions = BTreeSet::new();
+        for _ in 0..300 {
+            let mut state = state_in_range(&mut random);
+            state.vpsr |= VEN;
+            let queue = Queue::of(&queue(&mut random));
+            let instructions = accept(&state, &queue).unwrap();
+            let mut order = permitted_order(&mut random, &instructions, state.vlr as usize);
+            damage_order(&mut random, &mut order);
+            positions.extend(first_bad_entry(&steps(&instructions, state.vlr as usize), &order));
+        }
+        assert!(positions.len() > 60, "{}", positions.len());
+    }
+
+    /// "An instruction's steps in rising order give that instruction's result."
+    #[test]
+    fn rising_steps_give_the_instruction() {
+        let mut random = Random::new(9);
+        for opcode in accepted_opcodes(false) {
+            for _ in 0..40 {
+                let state = state_in_range(&mut random);
+                let word = control_word(&mut random, opcode, false);
+                let instruction = Instruction { opcode, control_word: word, scalar: scalar(&mut random) };
+                let decoded = fields(work_of(opcode).unwrap(), &instruction);
+                let mut whole = state.clone();
+                let recorded = whole_instruction(&decoded, &mut whole);
+                let mut stepped = state.clone();
+                let mut any = false;
+                for step_ in steps(&[decoded], state.vlr as usize) {
+                    any |= step(&decoded, step_.element, &mut stepped);
+                }
+                assert_eq!((whole, recorded), (stepped, any));
+            }
+        }
+    }
+
+    /// A step changes nothing but what it is said to write, and depends on nothing but what it is said
+    /// to touch: whatever else is changed beforehand, it leaves the same there.
+    #[test]
+    fn steps_touch_only_what_is_said() {
+        let mut random = Random::new(10);
+        let value = |state: &State, place: Place| match place {
+            Place::Element { register, element } => state.registers[register][element],
+            Place::MaskBit(i) => state.vmr >> i & 1,
+            Place::Count => state.vcr,
+        };
+        let put = |state: &mut State, place: Place, value: u64| match place {
+            Place::Element { register, element } => state.registers[register][element] = value,
+            Place::MaskBit(i) => state.vmr = state.vmr & !(1 << i) | value << i,
+            Place::Count => state.vcr = value,
+        };
+        for opcode in accepted_opcodes(false) {
+            for _ in 0..20 {
+                let mut state = state_in_range(&mut random);
+                state.vlr = random.between(1, 64);
+                let instruction = Instruction {
+                    opcode,
+                    control_word: control_word(&mut random, opcode, false),
+                    scalar: scalar(&mut random),
+                };
+                let decoded = fields(work_of(opcode).unwrap(), &instruction);
+                let all = steps(&[decoded], state.vlr as usize);
+                let one = &all[random.below(all.len() as u64) as usize];
+                let mut after = state.clone();
+                let recorded = step(&decoded, one.element, &mut after);
+                // Everything not touched is drawn anew.
+                let mut other = state_in_range(&mut random);
+                (other.vlr, other.vaer, other.vpsr) = (state.vlr, state.vaer, state.vpsr);
+                for &place in one.reads.iter().chain(&one.writes) {
+                    put(&mut other, place, value(&state, place));
+                }
+                let mut expected = other.clone();
+                for &place in &one.writes {
+                    put(&mut expected, place, value(&after, place));
+                }
+                expected.vaer = after.vaer;
+                let recorded_there = step(&decoded, one.element, &mut other);
+                assert_eq!((other, recorded_there), (expected, recorded));
+                // And on its own state nothing else moved.
+                let mut back = after.clone();
+                one.writes.iter().for_each(|&place| put(&mut back, place, value(&state, place)));
+                back.vaer = state.vaer;
+                assert_eq!(back, state);
+            }
+        }
+    }
+
+    /// The generators reach every number a call can give.
+    #[test]
+    fn every_number_is_reached() {
+        let mut random = Random::new(11);
+        let mut numbers = BTreeSet::new();
+        for _ in 0..6_000 {
+            let mut state = state(&mut random);
+            let opcode = random.bits() as u8;
+            let instruction = instruction(&mut random, opcode);
+            let memory = match work_of(opcode) {
+                Some(work) => memory(&mut random, &fields(work, &instruction), &mut state),
+                None => Memory::none(),
+            };
+            numbers.insert(execute(&state, &instruction, &memory).map_or_else(|refusal| refusal.number, |_| 0));
+        }
+        assert_eq!(numbers, BTreeSet::from([0, 1, 2, 3, 4, 5, 6, 12]));
+        let mut numbers = BTreeSet::new();
+        for _ in 0..3_000 {
+            let (state, queue) = (state(&mut random), any_queue(&mut random));
+            numbers.insert(run(&state, &queue).map_or_else(|refusal| refusal.number, |_| 0));
+        }
+        assert_eq!(numbers, BTreeSet::from([0, 1, 2, 3, 7, 8, 12]));
+    }
+}

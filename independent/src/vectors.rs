@@ -1,0 +1,215 @@
+//! The outside vectors (`vectors/README.md`): reading the tables, and checking any arithmetic by them.
+
+use crate::float::{relation_holds, Operand, F, INTEGER_OVERFLOW, OVERFLOW, RESERVED_OPERAND, UNDERFLOW};
+use crate::machine::{element_work, fields, work_of, Instruction};
+use std::cmp::Ordering;
+use std::path::Path;
+use std::process::Command;
+
+pub const F_TABLES: [&str; 7] = ["ADDF", "SUBF", "MULF", "CMPF", "CVTFL", "CVTRFL", "CVTLF"];
+pub const L_TABLES: [&str; 4] = ["ADDL", "SUBL", "MULL", "CMPL"];
+pub const ROWS: usize = 3_000;
+pub const RELATIONS: [u32; 6] = [0, 1, 2, 4, 5, 6];
+
+/// Value written (for a compare the mask bit) and VAER type bits recorded.
+pub type Result32 = (u32, u32);
+
+/// Arithmetic that can be checked by the tables. A conversion has its source in `b`; `relation` is
+/// only for the compares.
+pub trait Arithmetic {
+    fn work(&self, table: &str, a: u32, b: u32, exc: bool, relation: u32) -> Result32;
+}
+
+/// This package's own arithmetic, taken through the machine's element work.
+pub struct Own;
+
+impl Arithmetic for Own {
+    fn work(&self, table: &str, a: u32, b: u32, exc: bool, relation: u32) -> Result32 {
+        let (opcode, va) = match table {
+            "ADDF" => (0x84, 1),
+            "SUBF" => (0x8C, 1),
+            "MULF" => (0xA4, 1),
+            "CMPF" => (0xC4, 1),
+            "CVTLF" => (0xEC, 1),
+            "CVTFL" => (0xEC, 4),
+            "CVTRFL" => (0xEC, 5),
+            "ADDL" => (0x80, 1),
+            "SUBL" => (0x88, 1),
+            "MULL" => (0xA0, 1),
+            "CMPL" => (0xC0, 1),
+            _ => panic!("no table {table}"),
+        };
+        let control_word = u16::from(exc) << 13 | va << 8 | 2 << 4 | relation as u16;
+        let instruction = Instruction { opcode, control_word, scalar: 0 };
+        let decoded = fields(work_of(opcode).expect("an accepted opcode"), &instruction);
+        let left = element_work(&decoded, a.into(), b.into(), 0, false);
+        (left.value as u32, left.types)
+    }
+}
+
+#[derive(Clone, Copy, PartialEq, Eq, Debug)]
+enum Said {
+    Value(u32),
+    Order(Ordering),
+    Nothing,
+}
+
+#[derive(Clone, Debug)]
+pub struct Row {
+    pub text: String,
+    a: u32,
+    b: u32,
+    /// Result and status with EXC clear, then set.
+    said: [(Said, String); 2],
+}
+
+/// The rows of a table, read with `gzip -dc`.
+pub fn rows(directory: &Path, table: &str) -> Result<Vec<Row>, String> {
+    let path = directory.join(format!("{table}.txt.gz"));
+    let output = Command::new("gzip").arg("-dc").arg(&path).output().map_err(|e| format!("gzip: {e}"))?;
+    if !output.status.success() {
+        return Err(format!("gzip: {}", String::from_utf8_lossy(&output.stderr)));
+    }
+    let text = String::from_utf8(output.stdout).map_err(|e| e.to_string())?;
+    let rows: Option<Vec<Row>> = text.lines().map(row).collect();
+    match rows {
+        Some(rows) if rows.len() == ROWS => Ok(rows),
+        Some(rows) => Err(format!("{table}: {} rows, not {ROWS}", rows.len())),
+        None => Err(format!("{table}: a row cannot be read")),
+    }
+}
+
+fn row(line: &str) -> Option<Row> {
+    let hex = |text: &str| u32::from_str_radix(text, 16).ok();
+    let said = |text: &str| {
+        Some(match text {
+            "LT" => Said::Order(Ordering::Less),
+            "EQ" => Said::Order(Ordering::Equal),
+            "GT" => Said::Order(Ordering::Greater),
+            "-" => Said::Nothing,
+            _ => Said::Value(hex(text)?),
+        })
+    };
+    let [a, b, r0, s0, r1, s1] = line.split(' ').collect::<Vec<_>>()[..] else { return None };
+    // A single operand is the source of a conversion, which stands in Vb.
+    let (a, b) = if b == "-" { (0, hex(a)?) } else { (hex(a)?, hex(b)?) };
+    Some(Row { text: line.into(), a, b, said: [(said(r0)?, s0.into()), (said(r1)?, s1.into())] })
+}
+
+/// Whether the exact product of two numbers lies below the smallest number, 2^-128, in size.
+fn product_is_below_smallest(a: u32, b: u32) -> bool {
+    match (F.operand(a.into()), F.operand(b.into())) {
+        (
+            Operand::Number { exponent: ea, significand: sa, .. },
+            Operand::Number { exponent: eb, significand: sb, .. },
+        ) => {
+            // sa * sb * 2^(ea + eb - 2 * 128 - 2 * 24) < 2^-128, sa * sb having 47 or 48 digits.
+            let limit = 176 - (ea as i32 + eb as i32);
+            limit >= 48 || limit >= 0 && sa * sb < 1 << limit
+        }
+        _ => false,
+    }
+}
+
+/// What document 01 makes of a row for a setting of EXC (and a relation), and whether that is the
+/// known difference.
+fn expected(table: &str, row: &Row, exc: bool, relation: u32) -> Result<(Result32, bool), String> {
+    let (said, status) = &row.said[usize::from(exc)];
+    let to_longword = matches!(table, "CVTFL" | "CVTRFL");
+    let same = |result| Ok((result, false));
+    match (said, status.as_str()) {
+        (Said::Order(order), "OK") => {
+            let holds = relation_holds(relation, *order).ok_or("a reserved relation")?;
+            same((holds.into(), 0))
+        }
+        (Said::Value(0x0080 | 0x8080), "OK") if table == "MULF" && product_is_below_smallest(row.a, row.b) => {
+            Ok((if exc { (0x8001, UNDERFLOW) } else { (0, 0) }, true))
+        }
+        (Said::Value(value), "OK") => same((*value, 0)),
+        (Said::Value(value), "V") if !exc => same((*value, 0)),
+        (Said::Value(value), "IOV") if exc => same((*value, INTEGER_OVERFLOW)),
+        (_, "OVF") => same((0x8008, OVERFLOW)),
+        (_, "UNF") if exc => same((0x8001, UNDERFLOW)),
+        (Said::Nothing, "ROP") if to_longword || table.starts_with("CMP") => same((0, RESERVED_OPERAND)),
+        (Said::Nothing, "ROP") => same((0x8004, RESERVED_OPERAND)),
+        _ => Err(format!("{table}: no meaning for row {}", row.text)),
+    }
+}
+
+/// What a check of some tables found.
+#[derive(Default, Debug)]
+pub struct Findings {
+    pub rows: usize,
+    pub results: usize,
+    /// Rows where document 01's result is not SIMH's, as `vectors/README.md` says.
+    pub known: usize,
+    pub differences: Vec<String>,
+}
+
+pub fn check(directory: &Path, tables: &[&str], arithmetic: &dyn Arithmetic) -> Result<Findings, String> {
+    let mut found = Findings::default();
+    for table in tables {
+        for row in rows(directory, table)? {
+            found.rows += 1;
+            let mut known = false;
+            let relations: &[u32] = if table.starts_with("CMP") { &RELATIONS } else { &[0] };
+            for exc in [false, true] {
+                for &relation in relations {
+                    let (expected, differs) = expected(table, &row, exc, relation)?;
+                    known |= differs;
+                    let given = arithmetic.work(table, row.a, row.b, exc, relation);
+                    found.results += 1;
+                    if given != expected {
+                        let exc = u32::from(exc);
+                        found.differences.push(format!(
+                            "{table} row {}: EXC {exc} relation {relation}: {:08X} types {:02X}, expected {:08X} types {:02X}",
+                            row.text, given.0, given.1, expected.0, expected.1
+                        ));
+                    }
+                }
+            }
+            found.known += usize::from(known);
+        }
+    }
+    Ok(found)
+}
+
+/// The repository's own `vectors/`.
+pub fn directory() -> std::path::PathBuf {
+    Path::new(env!("CARGO_MANIFEST_DIR")).join("../vectors")
+}
+
+#[cfg(test)]
+mod tests {
+    use super::*;
+
+    #[test]
+    fn all_rows() {
+        let tables: Vec<&str> = F_TABLES.into_iter().chain(L_TABLES).collect();
+        let found = check(&directory(), &tables, &Own).unwrap();
+        assert_eq!(found.differences, Vec::<String>::new());
+        assert_eq!(found.rows, 11 * ROWS);
+        // 9 tables of a result a setting, 2 of six relations a setting.
+        assert_eq!(found.results, 9 * ROWS * 2 + 2 * ROWS * 12);
+        assert!(found.known > 0, "the tables hold rows of the known difference");
+        println!("{} rows, {} with the known difference", found.rows, found.known);
+    }
+
+    /// The check is one that can fail.
+    #[test]
+    fn a_wrong_result_is_found() {
+        struct OffByOne;
+        impl Arithmetic for OffByOne {
+            fn work(&self, table: &str, a: u32, b: u32, exc: bool, relation: u32) -> Result32 {
+                let (value, types) = Own.work(table, a, b, exc, relation);
+                if (a, exc) == (0xFFFE_407F, true) {
+                    (value ^ 1, types)
+                } else {
+                    (value, types)
+                }
+            }
+        }
+        let found = check(&directory(), &["MULF"], &OffByOne).unwrap();
+        assert!(!found.differences.is_empty());
+    }
+}
