@@ -1,3 +1,4 @@
 // Leaf functions on numbers.
+pub mod bits;
 pub mod halves;
 pub mod relation;
