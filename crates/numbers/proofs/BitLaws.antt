@@ -1,19 +1,19 @@
 -- Bits as places: what a replaced bit leaves of the others, over any width. A bit's digit is `x / 2 ^ i % 2`, as `bit` and `withoutBit` have it.
 -- Assumes nothing.
 use mathlib.Core.Path.{_≡_, refl, sym, ap, ap₂, _∙_, subst}
-use mathlib.Core.Bool.{Bool, true, false, _&&_}
+use mathlib.Core.Bool.{Bool, _&&_}
 use Prim.Native.Nat.{ℕ, zero, suc, _+_, _-_, _*_, _/_, _%_, _^_, _≤_, _<_, max}
-use native.Mathlib.Nat.{le-trans, mod-lt, mod-le, mul-le-mul-right, div-mul-le-self, add-mul, mul-assoc, pow-suc, one-mul, div-add-mod', div-lt-iff-lt-mul, mod-one, div-one, zero-div, add-comm}
+use native.Mathlib.Nat.{le-trans, mod-lt, mod-le, mul-le-mul-right, div-mul-le-self, add-mul, pow-suc, one-mul, div-add-mod', div-lt-iff-lt-mul, mod-one, div-one, zero-div, add-comm}
 use native.Mathlib.Omega.{arith}
 use native.Mathlib.Decide.{decLt}
 use native.Mathlib.Numerals.{add-one}
 use lib.Arith.{bin-ind, digits-mod, digits-div, digits-lt}
-use lib.Bits.{bitOr, bitAnd, or-shr, or-mod, or-step, or-zero-r, or-zero-l, or-add-and, and-le-r}
+use lib.Bits.{bitOr, bitAnd, or-shr, or-step, or-zero-l, or-add-and, and-le-r}
 use lib.Pow.{pow-pos, pow-add, split, high, low, field, mod-mod-pow, mod-pow-add, shr-shr, shr-lt, shl-exact}
 use lib.Count.{ones, ones-cat}
 use lib.Dec.{lit<, eqb, eqb·suc-zero}
-use borrow.Author.Tests.{eq-eqb, ne-eqb}
-use Rattle.numbers.specs.Bits.{bit, withoutBit, withBit, lowBits, complement}
+use borrow.Author.Tests.{ne-eqb}
+use Rattle.numbers.specs.Bits.{bit, withBit, lowBits, complement}
 use Rattle.numbers.specs.Choice.{pick}
 
 -- ---- the digits of a number
@@ -183,22 +183,6 @@ module _ (x i v : ℕ) where
         top : x / 2 ^ i < 2 ^ (n - suc i) * 2
         top = subst (λ (k : ℕ). x / 2 ^ i < k) (pow-suc 2 (n - suc i)) (shr-lt (suc (n - suc i)) i (subst (λ (k : ℕ). x < 2 ^ k) n-is small))
 
--- ---- the same in a word of w bits, where a shift loses what goes past its end
-
--- what is shifted back is no more than what was there
-pub shifted-back-le : (x i d w : ℕ) → d ≤ x / 2 ^ i → d * 2 ^ i % 2 ^ w ≤ x
-shifted-back-le x i d w h = le-trans (mod-le (d * 2 ^ i) (2 ^ w)) (le-trans (mul-le-mul-right (2 ^ i) h) (div-mul-le-self x (2 ^ i)))
-
-module _ (x i v w : ℕ) (one : v < 2) (h : i < w) where
-  place-is : v * 2 ^ i % 2 ^ w ≡ v * 2 ^ i
-  place-is = shl-exact {a = v} 1 i w one (omega arith)
-
-  pub word-with-bit : x - digit x i * 2 ^ i % 2 ^ w + v * 2 ^ i % 2 ^ w ≡ withBit x i v
-  word-with-bit = ap₂ (λ (d n : ℕ). x - d + n) (shl-exact {a = digit x i} 1 i w (digit-lt x i) (omega arith)) place-is
-
-  pub word-with-bit-lt : x < 2 ^ w → x - digit x i * 2 ^ i % 2 ^ w + v * 2 ^ i % 2 ^ w < 2 ^ w
-  word-with-bit-lt small = subst (λ (n : ℕ). n < 2 ^ w) (sym word-with-bit) (with-bit-lt x i v one w small h)
-
 -- a bit replaced by itself
 pub with-bit-same : (x i : ℕ) → withBit x i (digit x i) ≡ x
 with-bit-same x i = with-bit x i (digit x i) ∙ ap (λ (n : ℕ). n * 2 ^ i + x % 2 ^ i) (div-add-mod' (x / 2 ^ i) 2) ∙ split x i
@@ -237,6 +221,22 @@ with-bits-commute x i j v w v1 w1 other = same-digits _ _ (λ k. at k (decEq k i
         ∙ digit-kept x i v v1 k p
         ∙ sym (digit-kept x j w w1 k q)
         ∙ sym (digit-kept (withBit x j w) i v v1 k p)
+
+-- ---- one bit replaced in a word of w bits, where a shift loses what goes past its end
+
+-- what is shifted back is no more than what was there
+pub shifted-back-le : (x i d w : ℕ) → d ≤ x / 2 ^ i → d * 2 ^ i % 2 ^ w ≤ x
+shifted-back-le x i d w h = le-trans (mod-le (d * 2 ^ i) (2 ^ w)) (le-trans (mul-le-mul-right (2 ^ i) h) (div-mul-le-self x (2 ^ i)))
+
+module _ (x i v w : ℕ) (one : v < 2) (h : i < w) where
+  place-is : v * 2 ^ i % 2 ^ w ≡ v * 2 ^ i
+  place-is = shl-exact {a = v} 1 i w one (omega arith)
+
+  pub word-with-bit : x - digit x i * 2 ^ i % 2 ^ w + v * 2 ^ i % 2 ^ w ≡ withBit x i v
+  word-with-bit = ap₂ (λ (d n : ℕ). x - d + n) (shl-exact {a = digit x i} 1 i w (digit-lt x i) (omega arith)) place-is
+
+  pub word-with-bit-lt : x < 2 ^ w → x - digit x i * 2 ^ i % 2 ^ w + v * 2 ^ i % 2 ^ w < 2 ^ w
+  word-with-bit-lt small = subst (λ (n : ℕ). n < 2 ^ w) (sym word-with-bit) (with-bit-lt x i v one w small h)
 
 -- ---- gathering by or
 

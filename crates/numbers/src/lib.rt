@@ -1,4 +1,5 @@
 // Leaf functions on numbers.
 pub mod bits;
+pub mod bytes;
 pub mod halves;
 pub mod relation;

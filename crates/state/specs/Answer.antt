@@ -21,6 +21,15 @@ reservedControlWord position = answer 2 position
 abbrev pub disabled : Answer
 disabled = answer 3 0
 
+abbrev pub windowRefused : Answer
+windowRefused = answer 4 0
+
+abbrev pub misaligned : ℕ → Answer
+misaligned element = answer 5 element
+
+abbrev pub outsideWindow : ℕ → Answer
+outsideWindow element = answer 6 element
+
 abbrev pub badFile : ℕ → Answer
 badFile recordNumber = answer 10 recordNumber
 

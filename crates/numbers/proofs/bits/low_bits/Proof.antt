@@ -1,4 +1,4 @@
--- `numbers::bits::low_bits` meets its contract. Assumes nothing.
+-- `bits::low_bits` meets its contract. Assumes nothing.
 use mathlib.Core.Path.{_≡_, sym, ap, subst}
 use Prim.Native.Nat.{ℕ, _%_, _^_, _<_}
 use native.Mathlib.Nat.{mod-eq-of-lt}

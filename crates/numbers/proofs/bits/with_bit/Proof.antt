@@ -1,4 +1,4 @@
--- `numbers::bits::with_bit` meets its contract. Assumes nothing.
+-- `bits::with_bit` meets its contract. Assumes nothing.
 use native.Mathlib.Omega.{arith}
 use borrow.Author.Needs.{needs}
 use Rattle.numbers.proofs.BitLaws.{shifted-back-le, word-with-bit, word-with-bit-lt}

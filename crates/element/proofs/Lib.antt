@@ -1,0 +1,2 @@
+-- Laws of works.
+pub mod Codes

@@ -1,0 +1,16 @@
+use Rattle.longword.proofs.LowBits.{shifted-right-fits}
+use borrow.Author.Needs.{needs}
+use Rattle.element.proofs.integer.shift_right.Statement.{statement}
+use Rattle.element.proofs.integer.shift_right.Tie as tie
+
+shift-right-requires : tie.Need-shift-right-requires
+shift-right-requires c κs = search needs
+
+place-requires : tie.Need-place-requires
+place-requires c κs = rw (c .shift-right .ensures) (shifted-right-fits _ _)
+
+returns : tie.Need-returns
+returns c = cc
+
+pub shift-right-spec : {M : Type 1} → statement M
+shift-right-spec = tie.close (tie.spec shift-right-requires place-requires returns)

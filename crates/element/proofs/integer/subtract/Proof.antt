@@ -1,0 +1,20 @@
+use Rattle.numbers.proofs.Longwords.{low32-fits}
+use borrow.Author.Needs.{needs}
+use Rattle.element.proofs.integer.subtract.Statement.{statement}
+use Rattle.element.proofs.integer.subtract.Tie as tie
+
+difference-overflows-requires : tie.Need-difference-overflows-requires
+difference-overflows-requires c κs = search needs
+
+difference-requires : tie.Need-difference-requires
+difference-requires c κs = search needs
+
+place-requires : tie.Need-place-requires
+place-requires c κs = rw (c .difference .ensures) (low32-fits _)
+
+returns : tie.Need-returns
+returns c = cc
+
+pub subtract-spec : {M : Type 1} → statement M
+subtract-spec =
+    tie.close (tie.spec difference-overflows-requires difference-requires place-requires returns)

@@ -1,0 +1,2 @@
+-- What one element receives.
+pub mod Receives

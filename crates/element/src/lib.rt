@@ -1,0 +1,94 @@
+// What one element receives: every operation on plain numbers, by the work's number.
+use opcodes::Work;
+ghost use mathlib.Core.Path.{_≡_};
+ghost use Rattle.numbers.specs.Choice.{pick};
+ghost use Rattle.opcodes.specs.WorkNumbers.{workNumber};
+ghost use Rattle.element.specs.Receives.{quiet as quietOut, bitOut, resultOf, coded};
+
+mod float;
+mod integer;
+
+// The 64 bits that an element is left with (for compare, the mask bit), and the VAER type bits that
+// it records.
+pub struct Out {
+    pub value: u64,
+    pub types: u64,
+}
+
+// An element that records nothing.
+fn quiet(value: u64) -> Out
+    ensures { λ r. ⌜ r ≡ quietOut value ⌝ }
+{
+    Out { value, types: 0 }
+}
+
+// A mask bit, and what its compare recorded.
+fn mask_bit(t: bool, types: u64) -> Out
+    ensures { λ r. ⌜ r ≡ bitOut t types ⌝ }
+{
+    if t {
+        Out { value: 1, types }
+    } else {
+        Out { value: 0, types }
+    }
+}
+
+// The work of one element, by the work's number. The numbers and flags are plain, so that the
+// compiler can make a loop for each work.
+pub fn result(code: u8, exc: bool, field: u64, matches: bool, a: u64, b: u64, c: u64) -> Out
+    ensures { λ r. ⌜ r ≡ resultOf (coded code) exc field matches a b c ⌝ }
+{
+    match code {
+        1 => integer::add(exc, a, b, c),
+        2 => integer::subtract(exc, a, b, c),
+        3 => integer::multiply(exc, a, b, c),
+        4 => integer::compare(field, a, b),
+        5 => quiet(longword::bit_set(a, b)),
+        6 => quiet(longword::exclusive_or(a, b)),
+        7 => quiet(longword::bit_clear(a, b)),
+        8 => integer::shift_right(a, b, c),
+        9 => integer::shift_left(a, b, c),
+        10 => float::add(exc, a, b, c),
+        11 => float::subtract(exc, a, b, c),
+        12 => float::multiply(exc, a, b, c),
+        13 => float::compare(field, a, b),
+        14 => float::convert(field, exc, b, c),
+        16 => quiet(merged(matches, a, b)),
+        _ => quiet(c),
+    }
+}
+
+// Merge.
+fn merged(matches: bool, a: u64, b: u64) -> u64
+    ensures { λ r. ⌜ r ≡ pick matches a b ⌝ }
+{
+    if matches { a } else { b }
+}
+
+// The number of a work.
+pub fn code(work: Work) -> u8
+    ensures { λ r. ⌜ r ≡ workNumber work ⌝ }
+{
+    match work {
+        Work::AddLongword => 1,
+        Work::SubtractLongword => 2,
+        Work::MultiplyLongword => 3,
+        Work::CompareLongword => 4,
+        Work::BitSet => 5,
+        Work::ExclusiveOr => 6,
+        Work::BitClear => 7,
+        Work::ShiftRight => 8,
+        Work::ShiftLeft => 9,
+        Work::AddF => 10,
+        Work::SubtractF => 11,
+        Work::MultiplyF => 12,
+        Work::CompareF => 13,
+        Work::Convert => 14,
+        Work::Iota => 15,
+        Work::Merge => 16,
+        Work::LoadLongword => 17,
+        Work::LoadQuadword => 18,
+        Work::StoreLongword => 19,
+        Work::StoreQuadword => 20,
+    }
+}

@@ -1,0 +1,2 @@
+-- One instruction.
+pub mod Execute

@@ -1,0 +1,166 @@
+-- What a format delivers depends on the number alone, and may be worked out from any fraction that is the number up to a power of two. Over the format. Assumes nothing.
+use mathlib.Core.Path.{_≡_, refl, sym, ap, _∙_}
+use mathlib.Core.Logic.{_⊎_, inl, inr}
+use mathlib.Core.Bool.{Bool, true, false}
+use Prim.Native.Nat.{ℕ, _+_, _-_, _*_, _/_, _^_, _≤_, _<_}
+use native.Mathlib.Nat.{le-trans, le-of-eq, lt-of-le-of-lt, lt-of-lt-of-le, eq-zero-or-pos, zero-mul, mul-comm, mul-assoc, mul-left-comm, mul-right-comm, mul-le-mul-left, mul-le-mul-right, mul-lt-mul-of-pos-right, mul-pos, le-of-mul-le-mul-right, lt-of-mul-lt-mul-right, eq-of-mul-eq-mul-right, div-lt-iff-lt-mul}
+use native.Mathlib.Omega.{arith}
+use lib.Dec.{ltb}
+use lib.Pow.{pow-add, pow-pos, pow-mono}
+use lib.Ieee.{size}
+use lib.Ieee.Digits.{size-le}
+use lib.Ieee.Nearest.{div-same}
+use borrow.Author.Tests.{eq-eqb, ne-eqb, lt-ltb, le-ltb}
+use Rattle.floating.specs.declared.Outcome.the-variants.{Word, Overflow, Underflow}
+use Rattle.floating.specs.Format.{Format, wordOf}
+use Rattle.floating.specs.Exact.{Exact}
+use Rattle.floating.specs.Round.{near, places, Rounded, carried, rounded}
+use Rattle.floating.specs.Delivered.{judged, delivered}
+use Rattle.floating.specs.Steps.{Normal, IsRounded}
+use Rattle.floating.proofs.Rounding.{places-only, rounded-at, rounded-same, near-same, by}
+
+-- ---- N / D is n / d, up times doubled and down times halved
+module _ (p N D n d k up down : ℕ) (P : 0 < p) (DD : 0 < D) (dd : 0 < d) (E : N * (d * 2 ^ down) ≡ n * 2 ^ up * D) (M : Normal p n d k) where
+  W : 0 < d * 2 ^ down
+  W = mul-pos dd (pow-pos down)
+
+  U : 0 < 2 ^ up * D
+  U = mul-pos (pow-pos up) DD
+
+  joined : n * (2 ^ up * D) ≡ N * (d * 2 ^ down)
+  joined = sym (mul-assoc n (2 ^ up) D) ∙ sym E
+
+  -- below the range: no digit past p
+  none : k + up ≤ down → places p N D ≡ 0
+  none h =
+      let a : d * 2 ^ k * 2 ^ p * (2 ^ up * D) ≡ 2 ^ p * D * (d * 2 ^ (k + up)) = simp (pow-add, mul-assoc, mul-comm, mul-left-comm) in
+      let b : 2 ^ p * D * (d * 2 ^ (k + up)) ≤ 2 ^ p * D * (d * 2 ^ down) = mul-le-mul-left (2 ^ p * D) (mul-le-mul-left d (pow-mono h)) in
+      let c : N * (d * 2 ^ down) < d * 2 ^ k * 2 ^ p * (2 ^ up * D) = lt-of-le-of-lt (le-of-eq (sym joined)) (mul-lt-mul-of-pos-right (M .high) U) in
+      let l : N < 2 ^ p * D = lt-of-mul-lt-mul-right (d * 2 ^ down) (lt-of-lt-of-le c (le-trans (le-of-eq a) b)) in
+      let s : size (N / D) ≤ p = size-le (N / D) p (div-lt-iff-lt-mul DD .1 l) in
+      omega arith
+
+  module _ (j : ℕ) (J : j + down ≡ k + up) where
+    powers : 2 ^ j * 2 ^ down ≡ 2 ^ k * 2 ^ up
+    powers = sym (pow-add 2 j down) ∙ ap (λ (z : ℕ). 2 ^ z) J ∙ pow-add 2 k up
+
+    moved : (q : ℕ) → d * 2 ^ k * q * (2 ^ up * D) ≡ D * 2 ^ j * q * (d * 2 ^ down)
+    moved q =
+        let a : d * 2 ^ k * q * (2 ^ up * D) ≡ d * q * D * (2 ^ k * 2 ^ up) = simp (mul-assoc, mul-comm, mul-left-comm) in
+        let b : D * 2 ^ j * q * (d * 2 ^ down) ≡ d * q * D * (2 ^ j * 2 ^ down) = simp (mul-assoc, mul-comm, mul-left-comm) in
+        a ∙ ap (λ (z : ℕ). d * q * D * z) (sym powers) ∙ sym b
+
+    normal-moved : Normal p N D j
+    normal-moved = record {
+      low = le-of-mul-le-mul-right (le-trans (le-of-eq (sym (moved (2 ^ (p - 1))))) (le-trans (mul-le-mul-right (2 ^ up * D) (M .low)) (le-of-eq joined))) W;
+      high = lt-of-mul-lt-mul-right (d * 2 ^ down) (lt-of-le-of-lt (le-of-eq (sym joined)) (lt-of-lt-of-le (mul-lt-mul-of-pos-right (M .high) U) (le-of-eq (moved (2 ^ p)))));
+    }
+
+    near-moved : near N (D * 2 ^ j) ≡ near n (d * 2 ^ k)
+    near-moved =
+        let a : N * (d * 2 ^ k) * 2 ^ down ≡ N * (d * 2 ^ down) * 2 ^ k = simp (mul-assoc, mul-comm) in
+        let b : n * (2 ^ up * D) * 2 ^ k ≡ n * D * (2 ^ k * 2 ^ up) = simp (mul-assoc, mul-comm, mul-left-comm) in
+        let c : n * D * (2 ^ j * 2 ^ down) ≡ n * (D * 2 ^ j) * 2 ^ down = simp (mul-assoc, mul-comm, mul-left-comm) in
+        near-same N (D * 2 ^ j) n (d * 2 ^ k) (mul-pos DD (pow-pos j)) (mul-pos dd (pow-pos k))
+        (eq-of-mul-eq-mul-right (2 ^ down) (pow-pos down) (N * (d * 2 ^ k)) (n * (D * 2 ^ j))
+        (a ∙ ap (λ (z : ℕ). z * 2 ^ k) (sym joined) ∙ b ∙ ap (λ (z : ℕ). n * D * z) (sym powers) ∙ c))
+
+    pub rounded-moved : rounded p N D ≡ carried p (near n (d * 2 ^ k)) j
+    rounded-moved = rounded-at p N D P DD j normal-moved ∙ ap (λ (z : ℕ). carried p z j) near-moved
+
+    pub places-moved : places p N D ≡ j
+    places-moved = places-only p N D P DD j normal-moved
+
+-- the carry at another exponent
+carried-sig : (p r k j : ℕ) → carried p r k .sig ≡ carried p r j .sig
+carried-sig p r k j = go (ltb r (2 ^ p))
+  where
+    go : (t : Bool) → (by t p r k) .sig ≡ (by t p r j) .sig
+    go true = refl
+    go false = refl
+
+carried-exp : (p r k j up down : ℕ) → j + down ≡ k + up → carried p r k .exp + up - down ≡ carried p r j .exp
+carried-exp p r k j up down J = go (ltb r (2 ^ p))
+  where
+    go : (t : Bool) → (by t p r k) .exp + up - down ≡ (by t p r j) .exp
+    go true = omega arith
+    go false = omega arith
+
+-- ---- the judgement, by the tests that the code makes
+module _ (f : Format) (s k m e up down : ℕ) where
+  pub judged-under : k + up ≤ down → Underflow ≡ judged f s (k + up - down) m (e + up - down)
+  judged-under h = let z : k + up - down ≡ 0 = omega arith in simp (eq-eqb (k + up - down) 0 z)
+
+  in-range : down < k + up → k + up - down ≡ 0 → ⊥
+  in-range h z = omega arith
+
+  pub judged-over : down < k + up → down + f .largest < e + up → Overflow ≡ judged f s (k + up - down) m (e + up - down)
+  judged-over h g = let l : f .largest < e + up - down = omega arith in simp (ne-eqb (k + up - down) 0 (in-range h), lt-ltb (f .largest) (e + up - down) l)
+
+  pub judged-word : (w : ℕ) → down < k + up → e + up ≤ down + f .largest → w ≡ wordOf f s (e + up - down) (m - 2 ^ (f .bits - 1)) → Word w ≡ judged f s (k + up - down) m (e + up - down)
+  judged-word w h g ew = let l : e + up - down ≤ f .largest = omega arith in ap Word ew ∙ sym (simp (ne-eqb (k + up - down) 0 (in-range h), le-ltb (f .largest) (e + up - down) l))
+
+module _ (f : Format) where
+  pub delivered-zero : (v : Exact) → v .num ≡ 0 → delivered f v ≡ Word 0
+  unfolding delivered
+  delivered-zero v h = simp (eq-eqb (v .num) 0 h)
+
+  pub delivered-some : (v : Exact) → (v .num ≡ 0 → ⊥) → delivered f v ≡ judged f (v .sign) (places (f .bits) (v .num * 2 ^ (f .bits + f .excess)) (v .den)) (rounded (f .bits) (v .num * 2 ^ (f .bits + f .excess)) (v .den) .sig) (rounded (f .bits) (v .num * 2 ^ (f .bits + f .excess)) (v .den) .exp)
+  unfolding delivered
+  delivered-some v h = simp (ne-eqb (v .num) 0 h)
+
+  lowest : (s k m e k' m' e' : ℕ) → k ≡ 0 → k' ≡ 0 → judged f s k m e ≡ judged f s k' m' e'
+  lowest s k m e k' m' e' h h' = simp (eq-eqb k 0 h, eq-eqb k' 0 h')
+
+  -- What is delivered of num / den may be worked out from n / d, where num / den * 2 ^ (bits + excess) is n / d * 2 ^ up / 2 ^ down.
+  pub delivered-at : (s num den n d k m e up down : ℕ) → 0 < f .bits → 0 < den → 0 < d → num * 2 ^ (f .bits + f .excess) * (d * 2 ^ down) ≡ n * 2 ^ up * den → IsRounded (f .bits) n d k m e
+      → judged f s (k + up - down) m (e + up - down) ≡ delivered f (record { sign = s; num = num; den = den })
+  delivered-at s num den n d k m e up down P DD dd E R = sym (delivered-some (record { sign = s; num = num; den = den }) some ∙ go (eq-zero-or-pos (k + up - down)))
+    where
+      there : 0 < n * 2 ^ up * den
+      there = mul-pos (mul-pos (lt-of-lt-of-le (mul-pos (mul-pos dd (pow-pos k)) (pow-pos (f .bits - 1))) (R .normal .low)) (pow-pos up)) DD
+
+      some : num ≡ 0 → ⊥
+      some z =
+          let a : num * 2 ^ (f .bits + f .excess) * (d * 2 ^ down) ≡ 0 = ap (λ (y : ℕ). y * 2 ^ (f .bits + f .excess) * (d * 2 ^ down)) z ∙ ap (λ (y : ℕ). y * (d * 2 ^ down)) (zero-mul (2 ^ (f .bits + f .excess))) ∙ zero-mul (d * 2 ^ down) in
+          let b : n * 2 ^ up * den ≡ 0 = sym E ∙ a in
+          omega (arith, there)
+
+      go : (k + up - down ≡ 0) ⊎ (0 < k + up - down) → judged f s (places (f .bits) (num * 2 ^ (f .bits + f .excess)) den) (rounded (f .bits) (num * 2 ^ (f .bits + f .excess)) den .sig) (rounded (f .bits) (num * 2 ^ (f .bits + f .excess)) den .exp) ≡ judged f s (k + up - down) m (e + up - down)
+      go (inl z) =
+          let l : k + up ≤ down = omega arith in
+          lowest s _ _ _ _ _ _ (none (f .bits) (num * 2 ^ (f .bits + f .excess)) den n d k up down P DD dd E (R .normal) l) z
+      go (inr h) =
+          let j = k + up - down in
+          let J : j + down ≡ k + up = omega arith in
+          let r = rounded-moved (f .bits) (num * 2 ^ (f .bits + f .excess)) den n d k up down P DD dd E (R .normal) j J in
+          let q = rounded-at (f .bits) n d P dd k (R .normal) in
+          let c = near n (d * 2 ^ k) in
+          let es : rounded (f .bits) (num * 2 ^ (f .bits + f .excess)) den .sig ≡ m = ap (λ (x : Rounded). x .sig) r ∙ carried-sig (f .bits) c j k ∙ ap (λ (x : Rounded). x .sig) (sym q) ∙ sym (R .is-sig) in
+          let ee : rounded (f .bits) (num * 2 ^ (f .bits + f .excess)) den .exp ≡ e + up - down = ap (λ (x : Rounded). x .exp) r ∙ sym (carried-exp (f .bits) c k j up down J) ∙ ap (λ (x : Rounded). x .exp + up - down) (sym q) ∙ ap (λ (z : ℕ). z + up - down) (sym (R .is-after)) in
+          ap (λ (z : ℕ). judged f s z (rounded (f .bits) (num * 2 ^ (f .bits + f .excess)) den .sig) (rounded (f .bits) (num * 2 ^ (f .bits + f .excess)) den .exp)) (places-moved (f .bits) (num * 2 ^ (f .bits + f .excess)) den n d k up down P DD dd E (R .normal) j J)
+          ∙ ap (λ (z : ℕ). judged f s j z (rounded (f .bits) (num * 2 ^ (f .bits + f .excess)) den .exp)) es
+          ∙ ap (λ (z : ℕ). judged f s j m z) ee
+
+  -- equal fractions are delivered alike
+  pub delivered-same : (s a b c d : ℕ) → 0 < b → 0 < d → a * d ≡ c * b → delivered f (record { sign = s; num = a; den = b }) ≡ delivered f (record { sign = s; num = c; den = d })
+  delivered-same s a b c d B D E = go (eq-zero-or-pos a) (eq-zero-or-pos c)
+    where
+      go : (a ≡ 0) ⊎ (0 < a) → (c ≡ 0) ⊎ (0 < c) → delivered f (record { sign = s; num = a; den = b }) ≡ delivered f (record { sign = s; num = c; den = d })
+      go (inl p) (inl q) = delivered-zero (record { sign = s; num = a; den = b }) p ∙ sym (delivered-zero (record { sign = s; num = c; den = d }) q)
+      go (inl p) (inr q) =
+          let z : a * d ≡ 0 = ap (λ (k : ℕ). k * d) p ∙ zero-mul d in
+          let w : 0 < c * b = mul-pos q B in
+          absurd (omega arith)
+      go (inr p) (inl q) =
+          let z : c * b ≡ 0 = ap (λ (k : ℕ). k * b) q ∙ zero-mul b in
+          let w : 0 < a * d = mul-pos p D in
+          absurd (omega arith)
+      go (inr p) (inr q) =
+          let u = 2 ^ (f .bits + f .excess) in
+          let e : a * u * d ≡ c * u * b = mul-right-comm a u d ∙ ap (λ (k : ℕ). k * u) E ∙ mul-right-comm c b u in
+          let r = rounded-same (f .bits) (a * u) b (c * u) d B D e in
+          delivered-some (record { sign = s; num = a; den = b }) (λ z. omega arith)
+          ∙ ap (λ (k : ℕ). judged f s (size k - f .bits) (rounded (f .bits) (a * u) b .sig) (rounded (f .bits) (a * u) b .exp)) (div-same (a * u) b (c * u) d B D e)
+          ∙ ap (λ (k : Rounded). judged f s (places (f .bits) (c * u) d) (k .sig) (k .exp)) r
+          ∙ sym (delivered-some (record { sign = s; num = c; den = d }) (λ z. omega arith))

@@ -1,0 +1,16 @@
+-- The laws that the functions' proofs cite, by subject.
+pub mod Arithmetic
+pub mod Rounding
+pub mod Delivering
+pub mod Align
+pub mod Products
+pub mod Packing
+pub mod Magnitude
+pub mod Sums
+pub mod Meaning
+pub mod Converting
+pub mod Ordering
+pub mod Refusing
+pub mod Double
+pub mod Shown
+pub mod Examples

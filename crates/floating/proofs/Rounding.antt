@@ -1,0 +1,326 @@
+-- The laws of `rounded`, over the number p of digits. Assumes nothing.
+use mathlib.Core.Path.{_≡_, refl, sym, ap, _∙_, subst}
+use mathlib.Core.Logic.{_⊎_, inl, inr}
+use Prim.Native.Nat.{ℕ, suc, _+_, _-_, _*_, _/_, _^_, _≤_, _<_}
+use native.Mathlib.Nat.{le-trans, le-of-eq, le-antisymm, lt-of-le-of-lt, lt-of-lt-of-le, lt-of-not-le, not-le-of-lt, eq-or-lt-of-le, le-div-iff-mul-le, div-lt-iff-lt-mul, div-mul-le-self, lt-div-mul-add, div-div-eq-div-mul, mul-div-mul-right, add-mul-div-right, div-one, one-mul, mul-comm, mul-assoc, mul-left-comm, add-mul, mul-le-mul-right, mul-pos, pow-suc}
+use native.Mathlib.Omega.{arith}
+use mathlib.Core.Bool.{Bool, true, false, not, cond}
+use lib.Dec.{T, ltb, ltb→lt, nltb→le, lit<}
+use lib.Pow.{pow-add, pow-pos, pow-mono}
+use lib.Ieee.{size}
+use lib.Ieee.Digits.{size-lt, size-le, size-reaches}
+use lib.Ieee.Nearest.{div-mono, div-same}
+use borrow.Author.Tests.{lt-ltb}
+use Rattle.floating.specs.Round.{near, places, Rounded, carried, rounded}
+use Rattle.floating.specs.Steps.{Enough, Normal, IsRounded}
+use Rattle.floating.proofs.Arithmetic.{pow-two, double-power}
+
+-- ---- the nearest whole number
+
+module _ (n d : ℕ) (D : 0 < d) where
+  twice-pos : 0 < d * 2
+  twice-pos = omega arith
+
+  -- near n d is at most half a unit above n / d
+  pub near-over : near n d * (d * 2) ≤ n * 2 + d
+  near-over = div-mul-le-self (n * 2 + d) (d * 2)
+
+  -- and less than half a unit below: a half goes up
+  pub near-under : n * 2 < near n d * (d * 2) + d
+  near-under =
+      let l : n * 2 + d < near n d * (d * 2) + d * 2 = lt-div-mul-add twice-pos in
+      omega arith
+
+  pub near-ge : (a : ℕ) → a * d ≤ n → a ≤ near n d
+  near-ge a h =
+      le-div-iff-mul-le twice-pos .1
+      (let e : a * (d * 2) ≡ a * d * 2 = sym (mul-assoc a d 2) in
+      let l : a * d * 2 ≤ n * 2 = mul-le-mul-right 2 h in
+      omega arith)
+
+  pub near-le : (b : ℕ) → n < b * d → near n d ≤ b
+  near-le b h =
+      let e : (b + 1) * (d * 2) ≡ b * d * 2 + d * 2 = add-mul b 1 (d * 2) ∙ ap (λ (z : ℕ). z + 1 * (d * 2)) (sym (mul-assoc b d 2)) ∙ ap (λ (z : ℕ). b * d * 2 + z) (one-mul (d * 2)) in
+      let h2 : n * 2 + d < (b + 1) * (d * 2) = omega arith in
+      let l : near n d < b + 1 = div-lt-iff-lt-mul twice-pos .1 h2 in
+      omega arith
+
+  -- what lies within the half unit is the nearest: uniqueness
+  pub near-only : (r : ℕ) → r * (d * 2) ≤ n * 2 + d → n * 2 < r * (d * 2) + d → near n d ≡ r
+  near-only r lo hi =
+      let e : (r + 1) * (d * 2) ≡ r * (d * 2) + d * 2 = add-mul r 1 (d * 2) ∙ ap (λ (z : ℕ). r * (d * 2) + z) (one-mul (d * 2)) in
+      let h2 : n * 2 + d < (r + 1) * (d * 2) = omega arith in
+      let l : near n d < r + 1 = div-lt-iff-lt-mul twice-pos .1 h2 in
+      let g : r ≤ near n d = le-div-iff-mul-le twice-pos .1 lo in
+      omega arith
+
+-- a larger fraction is no nearer to a smaller number
+pub near-mono : (a b c d : ℕ) → 0 < b → 0 < d → a * d ≤ c * b → near a b ≤ near c d
+near-mono a b c d B D h =
+    div-mono (a * 2 + b) (b * 2) (c * 2 + d) (d * 2) (twice-pos a b B) (twice-pos c d D)
+    (let e : (a * 2 + b) * (d * 2) ≡ a * d * 4 + b * d * 2 = add-mul (a * 2) b (d * 2) ∙ simp (mul-assoc, mul-comm, mul-left-comm) (omega arith) in
+    let f : (c * 2 + d) * (b * 2) ≡ c * b * 4 + b * d * 2 = add-mul (c * 2) d (b * 2) ∙ simp (mul-assoc, mul-comm, mul-left-comm) (omega arith) in
+    omega arith)
+
+pub near-same : (a b c d : ℕ) → 0 < b → 0 < d → a * d ≡ c * b → near a b ≡ near c d
+near-same a b c d B D e = le-antisymm (near-mono a b c d B D (le-of-eq e)) (near-mono c d a b D B (le-of-eq (sym e)))
+
+-- At an even unit only the whole part counts: what is below it never makes or unmakes a half.
+pub near-floor : (n c u : ℕ) → 0 < c → 0 < u → near n (c * (u * 2)) ≡ near (n / c) (u * 2)
+near-floor n c u C U =
+    let W : 0 < u * 2 = omega arith in
+    let one : (n * 2 + c * (u * 2)) / (c * (u * 2) * 2) ≡ (n + c * u) / (c * (u * 2)) =
+    ap (λ (z : ℕ). z / (c * (u * 2) * 2)) (ap (λ (z : ℕ). n * 2 + z) (sym (mul-assoc c u 2)) ∙ sym (add-mul n (c * u) 2)) ∙ mul-div-mul-right (n + c * u) (c * (u * 2)) (pow-pos 1) in
+    let two : (n / c * 2 + u * 2) / (u * 2 * 2) ≡ (n / c + u) / (u * 2) = ap (λ (z : ℕ). z / (u * 2 * 2)) (sym (add-mul (n / c) u 2)) ∙ mul-div-mul-right (n / c + u) (u * 2) (pow-pos 1) in
+    let mid : (n + c * u) / c ≡ n / c + u = ap (λ (z : ℕ). (n + z) / c) (mul-comm c u) ∙ add-mul-div-right n u C in
+    one ∙ sym (div-div-eq-div-mul (n + c * u) c (u * 2)) ∙ ap (λ (z : ℕ). z / (u * 2)) mid ∙ sym two
+
+-- ---- the places
+
+size-gt : (n j : ℕ) → 2 ^ j ≤ n → j < size n
+size-gt n j h = lt-of-not-le (λ (g : size n ≤ j). not-le-of-lt (lt-of-lt-of-le (size-lt n) (pow-mono g)) h)
+
+shuffle : (den k i j : ℕ) → i + k ≡ j → den * 2 ^ k * 2 ^ i ≡ 2 ^ j * den
+shuffle den k i j e = mul-assoc den (2 ^ k) (2 ^ i) ∙ ap (λ (z : ℕ). den * z) (mul-comm (2 ^ k) (2 ^ i) ∙ pow-two i k j e) ∙ mul-comm den (2 ^ j)
+
+-- the value of what is rounded, after the carry
+unfoldable pub worth : Rounded → ℕ
+worth x = x .sig * 2 ^ (x .exp)
+
+module _ (p num den : ℕ) (P : 0 < p) (D : 0 < den) where
+  pub normal-places : Enough p num den → Normal p num den (places p num den)
+  normal-places h =
+      let w = num / den in
+      let z = size w in
+      let k = places p num den in
+      let big : p - 1 < z = size-gt w (p - 1) (le-div-iff-mul-le D .1 (le-trans (le-of-eq (mul-comm (2 ^ (p - 1)) den)) h)) in
+      let e1 : p - 1 + k ≡ z - 1 = omega arith in
+      let e2 : p + k ≡ z = omega arith in
+      let less : z - 1 < z = omega arith in
+      record {
+        low = le-trans (le-of-eq (shuffle den k (p - 1) (z - 1) e1)) (le-div-iff-mul-le D .0 (size-reaches w (z - 1) less));
+        high = lt-of-lt-of-le (div-lt-iff-lt-mul D .0 (size-lt w)) (le-of-eq (sym (shuffle den k p z e2)));
+      }
+
+  -- the one k
+  pub places-only : (k : ℕ) → Normal p num den k → places p num den ≡ k
+  places-only k h =
+      let w = num / den in
+      let lo : 2 ^ (p - 1 + k) ≤ w = le-div-iff-mul-le D .1 (le-trans (le-of-eq (sym (shuffle den k (p - 1) (p - 1 + k) refl))) (h .low)) in
+      let hi : w < 2 ^ (p + k) = div-lt-iff-lt-mul D .1 (lt-of-lt-of-le (h .high) (le-of-eq (shuffle den k p (p + k) refl))) in
+      let a : p - 1 + k < size w = size-gt w (p - 1 + k) lo in
+      let b : size w ≤ p + k = size-le w (p + k) hi in
+      omega arith
+
+  -- so the rounding may be worked out at any k that is seen to be right
+  pub rounded-at : (k : ℕ) → Normal p num den k → rounded p num den ≡ carried p (near num (den * 2 ^ k)) k
+  unfolding rounded
+  rounded-at k h = ap (λ (z : ℕ). carried p (near num (den * 2 ^ z)) z) (places-only k h)
+
+  pub near-in : (k : ℕ) → Normal p num den k → (2 ^ (p - 1) ≤ near num (den * 2 ^ k)) × (near num (den * 2 ^ k) ≤ 2 ^ p)
+  near-in k h =
+      let u = den * 2 ^ k in
+      let U : 0 < u = mul-pos D (pow-pos k) in
+      (near-ge num u U (2 ^ (p - 1)) (le-trans (le-of-eq (mul-comm (2 ^ (p - 1)) u)) (h .low)), near-le num u U (2 ^ p) (lt-of-lt-of-le (h .high) (le-of-eq (mul-comm u (2 ^ p)))))
+
+half-power : (p : ℕ) → 0 < p → 2 ^ (p - 1) < 2 ^ p
+half-power p P = let q = double-power p P in let pp = pow-pos (p - 1) in omega arith
+
+-- ---- the carry
+
+-- the carry by its test
+abbrev pub by : Bool → ℕ → ℕ → ℕ → Rounded
+by t p r k = cond t (record { sig = r; exp = k }) (record { sig = 2 ^ (p - 1); exp = k + 1 })
+
+pub carried-in : (p r k : ℕ) → 0 < p → 2 ^ (p - 1) ≤ r → (2 ^ (p - 1) ≤ carried p r k .sig) × (carried p r k .sig < 2 ^ p)
+carried-in p r k P lo = go (ltb r (2 ^ p)) (ltb→lt r (2 ^ p))
+  where
+    go : (t : Bool) → (T t → r < 2 ^ p) → (2 ^ (p - 1) ≤ (by t p r k) .sig) × ((by t p r k) .sig < 2 ^ p)
+    go true h = (lo, h tt)
+    go false h = (le-of-eq refl, half-power p P)
+
+pub carried-worth : (p r k : ℕ) → 0 < p → r ≤ 2 ^ p → worth (carried p r k) ≡ r * 2 ^ k
+unfolding worth
+carried-worth p r k P hi = go (ltb r (2 ^ p)) (nltb→le r (2 ^ p))
+  where
+    go : (t : Bool) → (T (not t) → 2 ^ p ≤ r) → (by t p r k) .sig * 2 ^ ((by t p r k) .exp) ≡ r * 2 ^ k
+    go true h = refl
+    go false h =
+        let e : r ≡ 2 ^ p = le-antisymm hi (h tt) in
+        ap (λ (z : ℕ). 2 ^ (p - 1) * z) (pow-add 2 k 1 ∙ mul-comm (2 ^ k) 2)
+        ∙ sym (mul-assoc (2 ^ (p - 1)) 2 (2 ^ k))
+        ∙ ap (λ (z : ℕ). z * 2 ^ k) (double-power p P ∙ sym e)
+
+-- ---- the laws of rounded
+module _ (p num den : ℕ) (P : 0 < p) (D : 0 < den) (E : Enough p num den) where
+  -- a significand of p digits
+  pub rounded-in : (2 ^ (p - 1) ≤ rounded p num den .sig) × (rounded p num den .sig < 2 ^ p)
+  rounded-in =
+      let k = places p num den in
+      let N = normal-places p num den P D E in
+      subst (λ (x : Rounded). (2 ^ (p - 1) ≤ x .sig) × (x .sig < 2 ^ p)) (sym (rounded-at p num den P D k N)) (carried-in p (near num (den * 2 ^ k)) k P (near-in p num den P D k N .0))
+
+  pub rounded-worth : worth (rounded p num den) ≡ near num (den * 2 ^ places p num den) * 2 ^ places p num den
+  rounded-worth =
+      let k = places p num den in
+      let N = normal-places p num den P D E in
+      ap worth (rounded-at p num den P D k N) ∙ carried-worth p (near num (den * 2 ^ k)) k P (near-in p num den P D k N .1)
+
+  -- Half a unit at most above the exact value, and less than half a unit below it, the unit being 2 ^ places: so a half goes up.
+  pub rounded-over : worth (rounded p num den) * den * 2 ≤ num * 2 + den * 2 ^ places p num den
+  rounded-over =
+      let k = places p num den in
+      let u = den * 2 ^ k in
+      le-trans (le-of-eq (ap (λ (z : ℕ). z * den * 2) rounded-worth ∙ simp (mul-assoc, mul-comm, mul-left-comm))) (near-over num u (mul-pos D (pow-pos k)))
+
+  pub rounded-under : num * 2 < worth (rounded p num den) * den * 2 + den * 2 ^ places p num den
+  rounded-under =
+      let k = places p num den in
+      let u = den * 2 ^ k in
+      lt-of-lt-of-le (near-under num u (mul-pos D (pow-pos k))) (le-of-eq (ap (λ (z : ℕ). z + u) (sym (ap (λ (z : ℕ). z * den * 2) rounded-worth ∙ simp (mul-assoc, mul-comm, mul-left-comm)))))
+
+-- ---- a larger fraction rounds to no smaller number
+fewer : (x y p : ℕ) → x ≤ y → x - p ≤ y - p
+fewer x y p h = omega arith
+
+size-mono : (m n : ℕ) → m ≤ n → size m ≤ size n
+size-mono m n h = size-le m (size n) (lt-of-le-of-lt h (size-lt n))
+
+module _ (p a b c d : ℕ) (P : 0 < p) (B : 0 < b) (D : 0 < d) (E : Enough p a b) (F : Enough p c d) (h : a * d ≤ c * b) where
+  places-mono : places p a b ≤ places p c d
+  places-mono = fewer (size (a / b)) (size (c / d)) p (size-mono (a / b) (c / d) (div-mono a b c d B D h))
+
+  pub rounded-mono : worth (rounded p a b) ≤ worth (rounded p c d)
+  rounded-mono =
+      le-trans (le-of-eq (rounded-worth p a b P B E)) (le-trans (go (eq-or-lt-of-le places-mono)) (le-of-eq (sym (rounded-worth p c d P D F))))
+    where
+      go : (places p a b ≡ places p c d) ⊎ (places p a b < places p c d) → near a (b * 2 ^ places p a b) * 2 ^ places p a b ≤ near c (d * 2 ^ places p c d) * 2 ^ places p c d
+      go (inl e) =
+          let k = places p c d in
+          subst (λ (j : ℕ). near a (b * 2 ^ j) * 2 ^ j ≤ near c (d * 2 ^ k) * 2 ^ k) (sym e)
+          (mul-le-mul-right (2 ^ k) (near-mono a (b * 2 ^ k) c (d * 2 ^ k) (mul-pos B (pow-pos k)) (mul-pos D (pow-pos k))
+          (le-trans (le-of-eq (sym (mul-assoc a d (2 ^ k)))) (le-trans (mul-le-mul-right (2 ^ k) h) (le-of-eq (mul-assoc c b (2 ^ k)))))))
+      go (inr l) =
+          let j = places p a b in
+          let k = places p c d in
+          let room : p + j ≤ p - 1 + k = omega arith in
+          le-trans (mul-le-mul-right (2 ^ j) (near-in p a b P B j (normal-places p a b P B E) .1))
+          (le-trans (le-of-eq (pow-two p j (p + j) refl))
+          (le-trans (pow-mono room)
+          (le-trans (le-of-eq (sym (pow-two (p - 1) k (p - 1 + k) refl)))
+          (mul-le-mul-right (2 ^ k) (near-in p c d P D k (normal-places p c d P D F) .0)))))
+
+-- ---- equal fractions round alike
+pub rounded-same : (p a b c d : ℕ) → 0 < b → 0 < d → a * d ≡ c * b → rounded p a b ≡ rounded p c d
+unfolding rounded
+rounded-same p a b c d B D e =
+    let k = places p c d in
+    ap (λ (z : ℕ). carried p (near a (b * 2 ^ (size z - p))) (size z - p)) (div-same a b c d B D e)
+    ∙ ap (λ (z : ℕ). carried p z k) (near-same a (b * 2 ^ k) c (d * 2 ^ k) (mul-pos B (pow-pos k)) (mul-pos D (pow-pos k))
+    (sym (mul-assoc a d (2 ^ k)) ∙ ap (λ (z : ℕ). z * 2 ^ k) e ∙ mul-assoc c b (2 ^ k)))
+
+-- ---- Where the whole part has more than p digits, it alone decides: a quotient, or a sum with a far smaller number, may be cut to it.
+pub rounded-floor : (p num den : ℕ) → 0 < den → den * 2 ^ p ≤ num → rounded p num den ≡ rounded p (num / den) 1
+unfolding rounded
+rounded-floor p num den D h =
+    let w = num / den in
+    let k = places p num den in
+    let big : p < size w = size-gt w p (le-div-iff-mul-le D .1 (le-trans (le-of-eq (mul-comm (2 ^ p) den)) h)) in
+    let e : suc (k - 1) ≡ k = omega arith in
+    let u : 2 ^ (k - 1) * 2 ≡ 2 ^ k = sym (pow-suc 2 (k - 1)) ∙ ap (λ (z : ℕ). 2 ^ z) e in
+    ap (λ (z : ℕ). carried p z k)
+    (ap (λ (z : ℕ). near num (den * z)) (sym u) ∙ near-floor num den (2 ^ (k - 1)) D (pow-pos (k - 1)) ∙ ap (λ (z : ℕ). near w z) (u ∙ sym (one-mul (2 ^ k))))
+    ∙ ap (λ (z : ℕ). carried p (near w (1 * 2 ^ (size z - p))) (size z - p)) (sym (div-one w))
+
+-- ---- the carry moves the exponent by one at most
+pub carried-steps : (p r k : ℕ) → (k ≤ carried p r k .exp) × (carried p r k .exp ≤ k + 1)
+carried-steps p r k = go (ltb r (2 ^ p))
+  where
+    go : (t : Bool) → (k ≤ (by t p r k) .exp) × ((by t p r k) .exp ≤ k + 1)
+    go true = (omega arith, omega arith)
+    go false = (omega arith, omega arith)
+
+pub rounded-in-at : (p num den : ℕ) → 0 < p → 0 < den → (k : ℕ) → Normal p num den k → (2 ^ (p - 1) ≤ rounded p num den .sig) × (rounded p num den .sig < 2 ^ p)
+rounded-in-at p num den P D k N = subst (λ (x : Rounded). (2 ^ (p - 1) ≤ x .sig) × (x .sig < 2 ^ p)) (sym (rounded-at p num den P D k N)) (carried-in p (near num (den * 2 ^ k)) k P (near-in p num den P D k N .0))
+
+-- ---- as the code works it out: half a unit is added, and the low digits are cut off
+pub halves : (x u : ℕ) → near x (u * 2) ≡ (x + u) / (u * 2)
+halves x u = ap (λ (z : ℕ). z / (u * 2 * 2)) (sym (add-mul x u 2)) ∙ mul-div-mul-right (x + u) (u * 2) (pow-pos 1)
+
+pub cut : (x k : ℕ) → 0 < k → near x (1 * 2 ^ k) ≡ (x + 2 ^ (k - 1)) / 2 ^ k
+cut x k K =
+    let e : suc (k - 1) ≡ k = omega arith in
+    let u : 2 ^ k ≡ 2 ^ (k - 1) * 2 = ap (λ (z : ℕ). 2 ^ z) (sym e) ∙ pow-suc 2 (k - 1) in
+    ap (λ (z : ℕ). near x z) (one-mul (2 ^ k) ∙ u) ∙ halves x (2 ^ (k - 1)) ∙ ap (λ (z : ℕ). (x + 2 ^ (k - 1)) / z) (sym u)
+
+module _ (p : ℕ) (P : 0 < p) where
+  pub cut-in : (x k y : ℕ) → 0 < k → Normal p x 1 k → y ≡ (x + 2 ^ (k - 1)) / 2 ^ k → y ≤ 2 ^ p
+  cut-in x k y K N e = subst (λ (z : ℕ). z ≤ 2 ^ p) (cut x k K ∙ sym e) (near-in p x 1 P (lit< tt) k N .1)
+
+  -- what the carry was handed at x, with the unit 2 ^ k
+  pub made : (x k y b m e : ℕ) → 0 < k → Normal p x 1 k → y ≡ (x + 2 ^ (k - 1)) / 2 ^ k → b ≡ k → m ≡ carried p y k .sig → e ≡ carried p y k .exp → IsRounded p x 1 b m e
+  made x k y b m e K N hy hb hm he =
+      let at : rounded p x 1 ≡ carried p y k = rounded-at p x 1 P (lit< tt) k N ∙ ap (λ (z : ℕ). carried p z k) (cut x k K ∙ sym hy) in
+      let digits = rounded-in-at p x 1 P (lit< tt) k N in
+      let steps = carried-steps p y k in
+      let dm : m ≡ rounded p x 1 .sig = hm ∙ ap (λ (x : Rounded). x .sig) (sym at) in
+      record {
+        is-before = hb ∙ sym (places-only p x 1 P (lit< tt) k N);
+        is-sig = dm;
+        is-after = he ∙ ap (λ (x : Rounded). x .exp) (sym at);
+        normal = subst (λ (z : ℕ). Normal p x 1 z) (sym hb) N;
+        low = subst (λ (z : ℕ). 2 ^ (p - 1) ≤ z) (sym dm) (digits .0);
+        high = subst (λ (z : ℕ). z < 2 ^ p) (sym dm) (digits .1);
+        least = subst (λ (z : ℕ). b ≤ z) (sym he) (subst (λ (z : ℕ). z ≤ carried p y k .exp) (sym hb) (steps .0));
+        most = subst (λ (z : ℕ). z ≤ b + 1) (sym he) (subst (λ (z : ℕ). carried p y k .exp ≤ z + 1) (sym hb) (steps .1));
+      }
+
+  -- Where the whole part X of a fraction has more than p digits, what X rounds to is what the fraction rounds to.
+  pub of-floor : (n d X b m e : ℕ) → 0 < d → X ≡ n / d → 2 ^ p ≤ X → IsRounded p X 1 b m e → IsRounded p n d b m e
+  of-floor n d X b m e D ex h R =
+      let big : 2 ^ p ≤ n / d = le-trans h (le-of-eq ex) in
+      let room : d * 2 ^ p ≤ n = le-trans (le-of-eq (mul-comm d (2 ^ p))) (le-div-iff-mul-le D .0 big) in
+      let r : rounded p X 1 ≡ rounded p n d = ap (λ (z : ℕ). rounded p z 1) ex ∙ sym (rounded-floor p n d D room) in
+      let N = R .normal in
+      let low : 2 ^ b * 2 ^ (p - 1) ≤ n / d = le-trans (le-of-eq (ap (λ (z : ℕ). z * 2 ^ (p - 1)) (sym (one-mul (2 ^ b))))) (le-trans (N .low) (le-of-eq ex)) in
+      let high : n / d < 2 ^ b * 2 ^ p = lt-of-le-of-lt (le-of-eq (sym ex)) (lt-of-lt-of-le (N .high) (le-of-eq (ap (λ (z : ℕ). z * 2 ^ p) (one-mul (2 ^ b))))) in
+      record {
+        is-before = R .is-before ∙ ap (λ (z : ℕ). size z - p) (div-one X ∙ ex);
+        is-sig = R .is-sig ∙ ap (λ (x : Rounded). x .sig) r;
+        is-after = R .is-after ∙ ap (λ (x : Rounded). x .exp) r;
+        normal = record {
+          low = le-trans (le-of-eq (mul-assoc d (2 ^ b) (2 ^ (p - 1)) ∙ mul-comm d (2 ^ b * 2 ^ (p - 1)))) (le-div-iff-mul-le D .0 low);
+          high = lt-of-lt-of-le (div-lt-iff-lt-mul D .0 high) (le-of-eq (sym (mul-assoc d (2 ^ b) (2 ^ p) ∙ mul-comm d (2 ^ b * 2 ^ p))));
+        };
+        low = R .low;
+        high = R .high;
+        least = R .least;
+        most = R .most;
+      }
+
+  -- a significand of p digits is its own rounding
+  pub itself : (m : ℕ) → 2 ^ (p - 1) ≤ m → m < 2 ^ p → IsRounded p m 1 0 m 0
+  itself m lo hi =
+      let e : 1 * 2 ^ 0 ≡ 1 = refl in
+      let N : Normal p m 1 0 = record {
+        low = le-trans (le-of-eq (one-mul (2 ^ (p - 1)))) lo;
+        high = lt-of-lt-of-le hi (le-of-eq (sym (one-mul (2 ^ p))));
+      } in
+      let w : near m 1 ≡ m = whole m in
+      let at : rounded p m 1 ≡ record { sig = m; exp = 0 } = rounded-at p m 1 P (lit< tt) 0 N ∙ ap (λ (z : ℕ). carried p z 0) w ∙ fits m hi in
+      record {
+        is-before = sym (places-only p m 1 P (lit< tt) 0 N);
+        is-sig = ap (λ (x : Rounded). x .sig) (sym at);
+        is-after = ap (λ (x : Rounded). x .exp) (sym at);
+        normal = N;
+        low = lo;
+        high = hi;
+        least = omega arith;
+        most = omega arith;
+      }
+    where
+      whole : (x : ℕ) → near x 1 ≡ x
+      whole x = omega arith
+
+      fits : (x : ℕ) → x < 2 ^ p → carried p x 0 ≡ record { sig = x; exp = 0 }
+      fits x h = simp (lt-ltb x (2 ^ p) h)

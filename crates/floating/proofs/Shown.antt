@@ -1,0 +1,83 @@
+-- What a reading shows of a word. Assumes nothing.
+use mathlib.Core.Path.{_≡_, refl, sym, ap, _∙_, subst}
+use mathlib.Core.Bool.{Bool, true, false, cond}
+use Prim.Native.Nat.{ℕ, zero, suc, _+_, _-_, _%_, _^_, _≤_, _<_}
+use native.Mathlib.Omega.{arith}
+use lib.Dec.{eqb}
+use lib.IntN.{ℤ, pos, negsuc, _-ℤ_}
+use lib.Ieee.{Float, binary64, ofBits, toBits, size}
+use lib.Ieee.Exact.{HasValue}
+use mir.Syntax.{w32}
+use mir.Val.{Fits, SFits, toZ, ofZ}
+use mir.ValLaws.{toZ-pos, ofZ-toZ}
+use borrow.Author.Tests.{eq-eqb, ne-eqb}
+use Rattle.floating.specs.declared.Reading.the-variants.{Number, Longword, Reserved}
+use Rattle.floating.specs.Format.{F, signOf, exponentOf, fractionOf, isReserved}
+use Rattle.floating.specs.Reading.{Shows, doubleBits, longwordReading}
+use Rattle.floating.specs.Steps.{Reads}
+use Rattle.floating.proofs.Products.{size-none, size-some}
+
+-- ---- F_floating
+module _ (w : ℕ) (t : Bool) (ht : t ≡ isReserved F w) where
+  pub shows-reserved : (c : ℕ) → t ≡ true → c ≡ w % 16 → Shows F w (Reserved c)
+  shows-reserved c y hc =
+      let e : isReserved F w ≡ true = sym ht ∙ y in
+      record { kind = sym (simp e); bits = hc ∙ sym (simp e); value = tt }
+
+  zero-bits : toBits binary64 (ofBits binary64 0) ≡ 0
+  unfolding toBits ofBits size
+  zero-bits = refl
+
+  zero-value : (s : Bool) (d : ℕ) → s ≡ false → HasValue (ofBits binary64 0) s 0 d
+  unfolding ofBits
+  zero-value s d h = (sym h, omega arith)
+
+  by-tests : (p q : Bool) (a b : ℕ) → p ≡ false → q ≡ true → cond p a (cond q 0 b) ≡ 0
+  by-tests p q a b h k = simp (h, k)
+
+  positive : (s : ℕ) → cond true (eqb s 1) false ≡ false → eqb s 1 ≡ false
+  positive s h = h
+
+  pub shows-zero : (e : ℕ) → t ≡ false → e ≡ exponentOf F w → e ≡ 0 → Shows F w (Number (ofBits binary64 0))
+  shows-zero e n he z =
+      let r : isReserved F w ≡ false = sym ht ∙ n in
+      let x : eqb (exponentOf F w) 0 ≡ true = eq-eqb (exponentOf F w) 0 (sym he ∙ z) in
+      let s : eqb (signOf F w) 1 ≡ false = positive (signOf F w) (ap (λ (b : Bool). cond b (eqb (signOf F w) 1) false) (sym x) ∙ r) in
+      record {
+        kind = sym (simp r);
+        bits = zero-bits ∙ sym (by-tests (isReserved F w) (eqb (exponentOf F w) 0) (w % 16) (doubleBits F (signOf F w) (exponentOf F w) (fractionOf F w)) r x);
+        value = subst (λ (k : ℕ). HasValue (ofBits binary64 0) (eqb (signOf F w) 1) k (2 ^ 152)) (sym (size-none F w (sym he ∙ z))) (zero-value (eqb (signOf F w) 1) (2 ^ 152) s);
+      }
+
+  pub shows-number : (x : Float) (e : ℕ) → t ≡ false → e ≡ exponentOf F w → (e ≡ 0 → ⊥) → Reads F w x → Shows F w (Number x)
+  shows-number x e n he ne R =
+      let r : isReserved F w ≡ false = sym ht ∙ n in
+      let z : (exponentOf F w ≡ 0 → ⊥) = λ y. ne (he ∙ y) in
+      let y : eqb (exponentOf F w) 0 ≡ false = ne-eqb (exponentOf F w) 0 z in
+      record {
+        kind = sym (simp r);
+        bits = R .bits ∙ sym (simp y);
+        value = subst (λ (k : ℕ). HasValue x (eqb (signOf F w) 1) k (2 ^ 152)) (sym (size-some F w z)) (R .value);
+      }
+
+-- ---- a longword
+minus-one : (x : ℕ) → negsuc 0 -ℤ pos x ≡ negsuc x
+minus-one zero = refl
+minus-one (suc n) = let e : suc (0 + n) ≡ suc n = omega arith in ap negsuc e
+
+module _ (l : ℕ) (lo : 2147483648 ≤ l) (hi : l < 4294967296) where
+  below-zero : negsuc 0 -ℤ toZ w32 (4294967295 - l) ≡ negsuc (4294967295 - l)
+  below-zero = ap (λ (z : ℤ). negsuc 0 -ℤ z) (toZ-pos w32 (4294967295 - l) (omega arith)) ∙ minus-one (4294967295 - l)
+
+  pub below-fits : SFits w32 (negsuc 0 -ℤ toZ w32 (4294967295 - l))
+  below-fits = subst (SFits w32) (sym below-zero) (record { sfits = omega arith })
+
+  pub below-is : toZ w32 (ofZ w32 (negsuc 0 -ℤ toZ w32 (4294967295 - l))) ≡ toZ w32 l
+  below-is =
+      let e : 4294967296 - suc (4294967295 - l) ≡ l = omega arith in
+      ap (λ (z : ℤ). toZ w32 (ofZ w32 z)) below-zero ∙ ap (toZ w32) e
+
+pub shows-longword : (w : ℕ) (r : ℤ) → Fits w32 w → r ≡ toZ w32 w → (Longword (toZ w32 (ofZ w32 r)) ≡ longwordReading w) × (ofZ w32 (toZ w32 (ofZ w32 r)) ≡ w)
+shows-longword w r f h =
+    let e : ofZ w32 r ≡ w = ap (ofZ w32) h ∙ ofZ-toZ w32 w f in
+    (ap (λ (z : ℕ). Longword (toZ w32 z)) e, ap (λ (z : ℕ). ofZ w32 (toZ w32 z)) e ∙ ofZ-toZ w32 w f)

@@ -1,0 +1,133 @@
+// F_floating (document 01, "What an element receives"): each function equals a definition of `specs/` for every input.
+mod convert;
+mod deliver;
+mod order;
+mod product;
+mod read;
+mod round;
+mod sum;
+mod word;
+
+ghost use mathlib.Core.Path.{_≡_};
+ghost use Rattle.floating.specs.Format.{F};
+ghost use Rattle.floating.specs.Reading.{Shows, longwordReading, bitsOf};
+ghost use Rattle.floating.specs.Operations.{answered, sum, difference, product, compared, roundedLongword, truncatedLongword, fromLongword};
+
+// What an operation gives, before EXC is looked at.
+pub enum Outcome {
+    Word(u32),
+    Overflow,
+    Underflow,
+    Reserved,
+}
+
+// The 32 bits that an element receives, and the type bits that VAER records.
+pub struct Answer {
+    pub value: u32,
+    pub types: u32,
+}
+
+// The mask bit that a compare gives, and the type bits that VAER records.
+pub struct Compared {
+    pub bit: bool,
+    pub types: u32,
+}
+
+// What a panel field shows.
+pub enum Reading {
+    Number(f64),
+    Longword(i32),
+    Reserved(u8),
+}
+
+fn answer_of(exc: bool, x: Outcome) -> Answer
+    ensures { λ r. ⌜ r ≡ answered exc x ⌝ }
+{
+    match x {
+        Outcome::Word(w) => Answer { value: w, types: 0 },
+        Outcome::Overflow => Answer {
+            value: 0x8008,
+            types: 8,
+        },
+        Outcome::Underflow => {
+            if exc {
+                Answer {
+                    value: 0x8001,
+                    types: 1,
+                }
+            } else {
+                Answer { value: 0, types: 0 }
+            }
+        }
+        Outcome::Reserved => Answer {
+            value: 0x8004,
+            types: 4,
+        },
+    }
+}
+
+// a plus b
+pub fn add(a: u32, b: u32, exc: bool) -> Answer
+    ensures { λ r. ⌜ r ≡ answered exc (sum F a b) ⌝ }
+{
+    answer_of(exc, sum::of_words(a, b))
+}
+
+// a minus b
+pub fn subtract(a: u32, b: u32, exc: bool) -> Answer
+    ensures { λ r. ⌜ r ≡ answered exc (difference F a b) ⌝ }
+{
+    answer_of(exc, sum::difference_of_words(a, b))
+}
+
+// a times b
+pub fn multiply(a: u32, b: u32, exc: bool) -> Answer
+    ensures { λ r. ⌜ r ≡ answered exc (product F a b) ⌝ }
+{
+    answer_of(exc, product::of_words(a, b))
+}
+
+// Whether a stands in the relation <2:0> to b.
+pub fn compare(relation: u32, a: u32, b: u32) -> Compared
+    ensures { λ r. ⌜ r ≡ compared F relation a b ⌝ }
+{
+    order::compare_words(relation, a, b)
+}
+
+// Conversion 5, F to longword rounded.
+pub fn rounded_longword(word: u32, exc: bool) -> Answer
+    ensures { λ r. ⌜ r ≡ roundedLongword F exc word ⌝ }
+{
+    convert::to_longword(word, 1, exc)
+}
+
+// Conversion 4, F to longword truncated.
+pub fn truncated_longword(word: u32, exc: bool) -> Answer
+    ensures { λ r. ⌜ r ≡ truncatedLongword F exc word ⌝ }
+{
+    convert::to_longword(word, 0, exc)
+}
+
+// Conversion 1, longword to F. There is always a word, and nothing is recorded.
+pub fn from_longword(longword: u32) -> Answer
+    ensures { λ r. ⌜ (fromLongword F longword ≡ Outcome.Word (r .value)) × (r .types ≡ 0) ⌝ }
+{
+    Answer {
+        value: convert::from_longword(longword),
+        types: 0,
+    }
+}
+
+// The reading of a word as F_floating.
+pub fn read_floating(word: u32) -> Reading
+    ensures { λ r. ⌜ Shows F word r ⌝ }
+{
+    read::floating(word)
+}
+
+// The reading of a word as a longword, whose bits are the word's.
+pub fn read_longword(word: u32) -> Reading
+    ensures { λ r. ⌜ (r ≡ longwordReading word) × (bitsOf r ≡ word) ⌝ }
+{
+    Reading::Longword(read::signed(word))
+}

@@ -1,0 +1,59 @@
+// The readings of a word.
+use crate::Reading;
+use crate::word;
+ghost use mathlib.Core.Path.{_≡_};
+ghost use mathlib.Core.Bool.{false};
+ghost use Prim.Native.Nat.{_%_, _^_, _<_};
+ghost use lib.Ieee.Exact.{HasValue};
+ghost use mir.Syntax.{w32};
+ghost use mir.Val.{toZ};
+ghost use Rattle.floating.specs.Format.{F, exponentOf};
+ghost use Rattle.floating.specs.Reading.{Shows};
+ghost use Rattle.floating.specs.Steps.{Reads};
+
+// 2 ^ (e - 152)
+fn scale_of(e: u32) -> f64
+    requires { ⌜ e < 256 ⌝ }
+    ensures { λ r. ⌜ HasValue r false (2 ^ e) (2 ^ 152) ⌝ }
+{
+    f64::from_bits(word::wide(e + 871) * 4503599627370496)
+}
+
+// The whole number of 24 bits, times a power of two: each operation is exact.
+fn number_of(word: u32) -> f64
+    requires { ⌜ 0 < exponentOf F word ⌝ }
+    ensures { λ r. ⌜ Reads F word r ⌝ }
+{
+    let e = word::exponent_of(word);
+    let m = 8388608 + word::fraction_of(word);
+    let x = m as f64 * scale_of(e);
+    if word / 32768 % 2 == 1 { -x } else { x }
+}
+
+fn code_of(word: u32) -> u8
+    ensures { λ r. ⌜ r ≡ word % 16 ⌝ }
+{
+    (word % 16) as u8
+}
+
+pub fn floating(word: u32) -> Reading
+    ensures { λ r. ⌜ Shows F word r ⌝ }
+{
+    if word::is_reserved(word) {
+        return Reading::Reserved(code_of(word));
+    }
+    if word::exponent_of(word) == 0 {
+        return Reading::Number(0.0);
+    }
+    Reading::Number(number_of(word))
+}
+
+// 32 bits as a number in two's complement.
+pub fn signed(l: u32) -> i32
+    ensures { λ r. ⌜ r ≡ toZ w32 l ⌝ }
+{
+    if l < 2147483648 {
+        return l as i32;
+    }
+    -1 - (4294967295 - l) as i32
+}

@@ -1,0 +1,55 @@
+// The fields of a word.
+ghost use mathlib.Core.Path.{_≡_};
+ghost use Rattle.floating.specs.Format.{F, signOf, exponentOf, fractionOf, significandOf, isReserved};
+ghost use Rattle.floating.specs.Steps.{magnitude, rank};
+
+pub fn wide(x: u32) -> u64
+    ensures { λ r. ⌜ r ≡ x ⌝ }
+{
+    x as u64
+}
+
+pub fn sign_of(word: u32) -> u32
+    ensures { λ r. ⌜ r ≡ signOf F word ⌝ }
+{
+    word / 32768 % 2
+}
+
+pub fn exponent_of(word: u32) -> u32
+    ensures { λ r. ⌜ r ≡ exponentOf F word ⌝ }
+{
+    word / 128 % 256
+}
+
+pub fn fraction_of(word: u32) -> u32
+    ensures { λ r. ⌜ r ≡ fractionOf F word ⌝ }
+{
+    word % 128 * 65536 + word / 65536
+}
+
+pub fn significand_of(word: u32) -> u64
+    ensures { λ r. ⌜ r ≡ significandOf F word ⌝ }
+{
+    wide(8388608 + fraction_of(word))
+}
+
+pub fn is_reserved(word: u32) -> bool
+    ensures { λ r. ⌜ r ≡ isReserved F word ⌝ }
+{
+    (word / 128 % 256 == 0) & (word / 32768 % 2 == 1)
+}
+
+pub fn magnitude_of(word: u32) -> u32
+    ensures { λ r. ⌜ r ≡ magnitude F word ⌝ }
+{
+    exponent_of(word) * 8388608 + fraction_of(word)
+}
+
+pub fn rank_of(word: u32) -> u32
+    ensures { λ r. ⌜ r ≡ rank F word ⌝ }
+{
+    if exponent_of(word) == 0 {
+        return 0;
+    }
+    magnitude_of(word)
+}

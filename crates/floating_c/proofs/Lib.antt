@@ -1,0 +1,2 @@
+-- The laws that the functions' proofs cite, by subject.
+pub mod Runs

@@ -1,0 +1,2 @@
+-- What the floating operations give to C.
+pub mod Given

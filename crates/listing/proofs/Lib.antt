@@ -1,0 +1,3 @@
+-- Laws of the listing.
+pub mod Listed
+pub mod Writing

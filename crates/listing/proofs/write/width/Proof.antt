@@ -1,0 +1,24 @@
+-- `width` meets its contract: its tests are the definition's. Assumes nothing.
+use borrow.Author.Tests.{lt-ltb, le-ltb}
+use Rattle.listing.specs.Text.{widthOf}
+use Rattle.listing.proofs.write.width.Statement.{statement}
+use Rattle.listing.proofs.write.width.Tie as tie
+
+returns : tie.Need-returns
+unfolding widthOf
+returns c = simp (lt-ltb _ _ (c .if1 .taken))
+
+returns-2 : tie.Need-returns-2
+unfolding widthOf
+returns-2 c = simp (le-ltb _ _ (c .before .if1 .left), lt-ltb _ _ (c .if2 .taken))
+
+returns-3 : tie.Need-returns-3
+unfolding widthOf
+returns-3 c = simp (le-ltb _ _ (c .before .before .if1 .left), le-ltb _ _ (c .before .if2 .left), lt-ltb _ _ (c .if3 .taken))
+
+returns-4 : tie.Need-returns-4
+unfolding widthOf
+returns-4 c = simp (le-ltb _ _ (c .before .before .if1 .left), le-ltb _ _ (c .before .if2 .left), le-ltb _ _ (c .if3 .left))
+
+pub width-spec : {M : Type 1} → statement M
+width-spec = tie.close (tie.spec returns returns-2 returns-3 returns-4)

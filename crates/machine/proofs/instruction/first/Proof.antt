@@ -1,0 +1,36 @@
+use borrow.Author.Needs.{needs}
+use Rattle.machine.proofs.instruction.first.Statement.{statement}
+use Rattle.machine.proofs.instruction.first.Tie as tie
+
+cast-result : tie.Need-cast-result
+cast-result c = search needs
+
+mul-result : tie.Need-mul-result
+mul-result c = search needs
+
+add-result : tie.Need-add-result
+add-result c = search needs
+
+mul-result-2 : tie.Need-mul-result-2
+mul-result-2 c = search needs
+
+element-copy-out-result : tie.Need-element-copy-out-result
+element-copy-out-result c = search needs
+
+returns : tie.Need-returns
+returns c = search needs
+
+returns-2 : tie.Need-returns-2
+returns-2 c = rw (c .before .before .if1 .left)
+
+pub first-spec : {M : Type 1} → statement M
+first-spec =
+    tie.close
+    (tie.spec
+    cast-result
+    mul-result
+    add-result
+    mul-result-2
+    element-copy-out-result
+    returns
+    returns-2)

@@ -1,0 +1,17 @@
+-- `iota::multiple` meets its contract. Assumes nothing.
+use Rattle.machine.proofs.IotaLaws.{multiple-lt}
+use borrow.Author.Needs.{needs}
+use Rattle.machine.proofs.iota.multiple.Statement.{statement}
+use Rattle.machine.proofs.iota.multiple.Tie as tie
+
+mul-result : tie.Need-mul-result
+mul-result c = record { fits = multiple-lt _ _ (search needs) (search needs) }
+
+cast-result : tie.Need-cast-result
+cast-result c = search needs
+
+returns : tie.Need-returns
+returns c = search needs
+
+pub multiple-spec : {M : Type 1} → statement M
+multiple-spec = tie.close (tie.spec mul-result cast-result returns)

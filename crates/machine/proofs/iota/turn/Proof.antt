@@ -1,0 +1,58 @@
+-- `iota::turn` meets its contract. Assumes nothing.
+use Rattle.machine.proofs.IotaLaws.{writes, moves, keeps, stays}
+use borrow.Author.Needs.{needs}
+use Rattle.machine.proofs.iota.turn.Statement.{statement}
+use Rattle.machine.proofs.iota.turn.Tie as tie
+
+bit-requires : tie.Need-bit-requires
+bit-requires c κs = search needs
+
+mul-to : tie.Need-mul-to
+mul-to c = search needs
+
+add-to : tie.Need-add-to
+add-to c = search needs
+
+mul-with-low : tie.Need-mul-with-low
+mul-with-low c = search needs
+
+element-copy-out-with-low : tie.Need-element-copy-out-with-low
+element-copy-out-with-low c = search needs
+
+multiple-requires : tie.Need-multiple-requires
+multiple-requires c κs = search needs
+
+with-low-requires : tie.Need-with-low-requires
+with-low-requires c κs = search needs
+
+mul-elements : tie.Need-mul-elements
+mul-elements c = search needs
+
+element-write-elements : tie.Need-element-write-elements
+element-write-elements c = search needs
+
+add-result : tie.Need-add-result
+add-result c = search needs
+
+returns : tie.Need-returns
+returns c = search (writes, moves, needs)
+
+returns-2 : tie.Need-returns-2
+returns-2 c = search (keeps, stays, needs)
+
+pub turn-spec : {M : Type 1} → statement M
+turn-spec =
+    tie.close
+    (tie.spec
+    bit-requires
+    mul-to
+    add-to
+    mul-with-low
+    element-copy-out-with-low
+    multiple-requires
+    with-low-requires
+    mul-elements
+    element-write-elements
+    add-result
+    returns
+    returns-2)

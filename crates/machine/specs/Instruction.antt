@@ -1,0 +1,29 @@
+-- A whole register instruction: its steps in rising order. IOTA is one step, also at VLR 0.
+use Prim.Native.Nat.{ℕ, zero, suc}
+use Rattle.numbers.specs.Choice.{pick}
+use Rattle.state.specs.State.{State}
+use Rattle.opcodes.specs.declared.Instruction.{Instruction}
+use Rattle.machine.specs.Kind.{kindOf, isIota}
+use Rattle.machine.specs.Run.{Run, begun, finished}
+use Rattle.machine.specs.Step.{elementStep}
+use Rattle.machine.specs.Iota.{iotaStep}
+
+-- the step of element i of an instruction
+unfoldable pub stepOf : Instruction → ℕ → ℕ → Run → Run
+stepOf ins scalar i r = pick (isIota (kindOf (ins .work))) (iotaStep ins scalar r) (elementStep ins scalar i r)
+
+-- the steps of the elements below n, in rising order
+unfoldable pub stepsBelow : ℕ → Instruction → ℕ → Run → Run
+stepsBelow zero ins scalar r = r
+stepsBelow (suc n) ins scalar r = stepOf ins scalar n (stepsBelow n ins scalar r)
+
+-- how many steps an instruction has
+abbrev pub stepCount : Instruction → ℕ → ℕ
+stepCount ins vlr = pick (isIota (kindOf (ins .work))) 1 vlr
+
+unfoldable pub wholeOf : Instruction → ℕ → Run → Run
+wholeOf ins scalar r = stepsBelow (stepCount ins (r .progress .control .vlr)) ins scalar r
+
+-- a register instruction by itself
+unfoldable pub instructionOf : Instruction → ℕ → State → State
+instructionOf ins scalar s = finished (wholeOf ins scalar (begun s))

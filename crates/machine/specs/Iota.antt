@@ -1,0 +1,35 @@
+-- Document 01, "What an element receives": IOTA. For each i < VLR, rising, with VMR<i> = MTF, the next element of Vc, from 0, gets i times stride mod 2^32.
+use mathlib.Core.Bool.{Bool}
+use mathlib.Core.List.{List}
+use Prim.Native.Nat.{ℕ, zero, suc, _+_, _*_, _%_, _^_}
+use lib.ListN.{set}
+use Rattle.numbers.specs.Choice.{pick}
+use Rattle.numbers.specs.Halves.{low, withLow}
+use Rattle.state.specs.State.{placeOf}
+use Rattle.opcodes.specs.declared.Instruction.{Instruction}
+use Rattle.machine.specs.Run.{Run, run, progress, withVcr}
+use Rattle.state.specs.Elements.{at, matches}
+
+-- the number of matching mask bits below n
+unfoldable pub matching : ℕ → Bool → ℕ → ℕ
+matching vmr mtf zero = 0
+matching vmr mtf (suc n) = matching vmr mtf n + pick (matches vmr mtf n) 1 0
+
+-- the elements with <31:0> of element e of vc replaced; <63:32> are left as they were
+abbrev pub put : ℕ → ℕ → ℕ → List ℕ → List ℕ
+put vc e value l = set l (placeOf vc e) (withLow (at l vc e) value)
+
+-- the turn of mask bit i, where e is the next element
+unfoldable pub turned : ℕ → Bool → ℕ → ℕ → ℕ → ℕ → List ℕ → List ℕ
+turned vmr mtf stride vc i e l = pick (matches vmr mtf i) (put vc e (i * stride % 2 ^ 32) l) l
+
+-- the walk over the first n mask bits, rising: the next element is the one at the number of matching bits passed
+unfoldable pub walked : ℕ → Bool → ℕ → ℕ → ℕ → List ℕ → List ℕ
+walked vmr mtf stride vc zero l = l
+walked vmr mtf stride vc (suc n) l = turned vmr mtf stride vc n (matching vmr mtf n) (walked vmr mtf stride vc n l)
+
+-- VCR is the number of matching mask bits below VLR; elements from VCR on keep
+unfoldable pub iotaStep : Instruction → ℕ → Run → Run
+iotaStep ins stride r =
+    run (walked (r .progress .control .vmr) (ins .mtf) (low stride) (ins .vc .0) (r .progress .control .vlr) (r .elements))
+    (progress (withVcr (r .progress .control) (matching (r .progress .control .vmr) (ins .mtf) (r .progress .control .vlr))) (r .progress .recorded))

@@ -1,0 +1,60 @@
+// Register instructions over the lent elements.
+use opcodes::Work;
+use state::Control;
+ghost use mathlib.Core.Path.{_≡_};
+ghost use Rattle.machine.specs.Kind.{kindOf};
+
+pub mod instruction;
+mod iota;
+mod lanes;
+mod mask;
+mod operand;
+pub mod run;
+
+// A run under way: the control record, and whether anything was recorded in this run.
+pub struct Progress {
+    pub control: Control,
+    pub recorded: bool,
+}
+
+// What a work writes: an element of Vc; one whatever MOE says; a mask bit; VCR and elements of Vc, in one step; or it moves memory.
+pub enum Kind {
+    Element,
+    Merge,
+    Compare,
+    Iota,
+    Memory,
+}
+
+// The mask after works that write mask bits, and the notes gathered.
+pub struct Masked {
+    pub vmr: u64,
+    pub notes: u64,
+}
+
+pub fn kind_of(work: Work) -> Kind
+    ensures { λ r. ⌜ r ≡ kindOf work ⌝ }
+{
+    match work {
+        Work::AddLongword => Kind::Element,
+        Work::SubtractLongword => Kind::Element,
+        Work::MultiplyLongword => Kind::Element,
+        Work::CompareLongword => Kind::Compare,
+        Work::BitSet => Kind::Element,
+        Work::ExclusiveOr => Kind::Element,
+        Work::BitClear => Kind::Element,
+        Work::ShiftRight => Kind::Element,
+        Work::ShiftLeft => Kind::Element,
+        Work::AddF => Kind::Element,
+        Work::SubtractF => Kind::Element,
+        Work::MultiplyF => Kind::Element,
+        Work::CompareF => Kind::Compare,
+        Work::Convert => Kind::Element,
+        Work::Iota => Kind::Iota,
+        Work::Merge => Kind::Merge,
+        Work::LoadLongword => Kind::Memory,
+        Work::LoadQuadword => Kind::Memory,
+        Work::StoreLongword => Kind::Memory,
+        Work::StoreQuadword => Kind::Memory,
+    }
+}

@@ -1,0 +1,9 @@
+-- Laws of steps in rising order, of the tests, and of what is moved.
+pub mod Rising
+pub mod Windows
+pub mod Filling
+pub mod Testing
+pub mod Moving
+pub mod Accessing
+pub mod Gathering
+pub mod Examples

@@ -1,0 +1,53 @@
+-- Laws of the window. Assumes nothing.
+use mathlib.Core.Bool.{Bool, true, false, _&&_}
+use mathlib.Core.Path.{_≡_, refl, sym, ap, _∙_}
+use mathlib.Core.List.{List}
+use Prim.Native.Nat.{ℕ, _+_, _-_, _%_, _^_, _≤_, _<_}
+use native.Mathlib.Omega.{arith}
+use lib.Dec.{leb, eqb}
+use lib.ListN.{length, getD}
+use borrow.Author.Tests.{le-leb, lt-leb, leb-true, leb-false}
+use borrow.Rule.Slice.PartMut.{putMid}
+use Rattle.numbers.specs.Bytes.{bytesOf, numberOf}
+use Rattle.numbers.specs.Over.{over}
+use Rattle.numbers.proofs.LittleEndian.{bytes-length}
+use Rattle.numbers.proofs.Over.{part-over, length-over}
+use Rattle.numbers.proofs.Places.{valuesBelow, places}
+use Rattle.numbers.proofs.Tests.{and-right}
+use Rattle.memory.specs.Window.{allowed, putAt}
+
+-- the number of bytes is tested first, so that the difference is one
+room : (bytes origin : ℕ) → bytes ≤ 65536 → (b : Bool) → leb origin (2 ^ 32 - bytes) ≡ b → b ≡ leb (origin + bytes) (2 ^ 32)
+room bytes origin h true e = sym (le-leb (origin + bytes) (2 ^ 32) (let k = leb-true origin (2 ^ 32 - bytes) e in omega arith))
+room bytes origin h false e = sym (lt-leb (origin + bytes) (2 ^ 32) (let k = leb-false origin (2 ^ 32 - bytes) e in omega arith))
+
+pub too-long : (bytes origin : ℕ) → 65536 < bytes → false ≡ allowed bytes origin
+unfolding allowed
+too-long bytes origin h = sym (ap (λ (b : Bool). b && eqb (origin % 8) 0 && leb (origin + bytes) (2 ^ 32)) (lt-leb bytes 65536 h))
+
+pub allows : (bytes origin : ℕ) → bytes ≤ 65536 → (eqb (origin % 8) 0 && leb origin (2 ^ 32 - bytes)) ≡ allowed bytes origin
+unfolding allowed
+allows bytes origin h =
+    ap (λ (b : Bool). eqb (origin % 8) 0 && b) (room bytes origin h _ refl)
+    ∙ sym (ap (λ (b : Bool). b && eqb (origin % 8) 0 && leb (origin + bytes) (2 ^ 32)) (le-leb bytes 65536 h))
+
+-- an allowed window ends at 2^32 at the latest
+pub ends-within : (bytes origin : ℕ) → allowed bytes origin ≡ true → origin + bytes ≤ 2 ^ 32
+unfolding allowed
+ends-within bytes origin e = leb-true (origin + bytes) (2 ^ 32) (and-right (leb bytes 65536 && eqb (origin % 8) 0) _ e)
+
+-- the number that all of a part makes
+pub whole : (size : ℕ) (part : List ℕ) → length part ≡ size → numberOf (valuesBelow size (λ (i : ℕ). getD part i 0)) ≡ numberOf part
+whole size part e = sym (ap numberOf (places size part e))
+
+-- a part of size bytes that was lent and came back as a number's bytes
+pub put : (size : ℕ) (w part : List ℕ) (offset v : ℕ) → part ≡ bytesOf size v → putMid offset (offset + size - offset) w part ≡ putAt size w offset v
+put size w part offset v e =
+    let n : length (bytesOf size v) ≡ size = bytes-length size v in
+    let k : length part ≡ offset + size - offset = ap length e ∙ omega arith in
+    part-over w offset (offset + size) part (omega arith) k ∙ ap (λ (l : List ℕ). over w offset l) e
+
+pub put-length : (size : ℕ) (w : List ℕ) (offset v : ℕ) → offset + size ≤ length w → length (putAt size w offset v) ≡ length w
+put-length size w offset v h =
+    let n : length (bytesOf size v) ≡ size = bytes-length size v in
+    length-over w offset (bytesOf size v) (omega arith)

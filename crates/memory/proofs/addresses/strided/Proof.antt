@@ -1,0 +1,66 @@
+-- `strided` meets its contract: the places below i are filled, and the next address is at hand. Assumes nothing.
+use mathlib.Core.Path.{_≡_, refl}
+use Prim.Native.Nat.{ℕ, _≤_, _<_, _-_}
+use native.Mathlib.Omega.{arith}
+use lib.ListN.{length, getD, length-set}
+use borrow.Author.Needs.{needs}
+use Rattle.memory.specs.Address.{strided as stridedOf}
+use Rattle.memory.proofs.Filling.{fills, strides, first}
+use Rattle.memory.proofs.addresses.strided.Statement.{statement}
+use Rattle.memory.proofs.addresses.strided.Tie as tie
+
+abbrev Inv-loop : tie.InvT-loop
+Inv-loop base stride n addresses₀ address₀ i₀ addresses address i = (i ≤ n) × ((address ≡ stridedOf base stride i) × ((length addresses ≡ 64) × ((k : ℕ) → k < i → getD addresses k 0 ≡ stridedOf base stride k)))
+
+abbrev μ-loop : tie.MeasureT-loop
+μ-loop base stride n addresses₀ address₀ i₀ addresses address i = n - i
+
+loop-holds : tie.Need-loop-holds Inv-loop μ-loop
+loop-holds c = (search needs, (search (first, needs), (refl, λ k h. absurd (omega arith))))
+
+mul-addresses : tie.Need-mul-addresses Inv-loop μ-loop
+mul-addresses c = omega arith
+
+array-write-addresses : tie.Need-array-write-addresses Inv-loop μ-loop
+array-write-addresses c = omega arith
+
+wrapping-add-u32-requires : tie.Need-wrapping-add-u32-requires Inv-loop μ-loop
+wrapping-add-u32-requires c κs = search needs
+
+add-i : tie.Need-add-i Inv-loop μ-loop
+add-i c = omega arith
+
+loop-less : tie.Need-loop-less Inv-loop μ-loop
+loop-less c = omega arith
+
+loop-again : tie.Need-loop-again Inv-loop μ-loop
+loop-again c =
+    let loop = c .before .before .loop in
+    let args = c .before .before .before .args in (
+      omega arith,
+      (
+        search (strides, needs),
+        (
+          simp length-set (search needs),
+          fills (stridedOf (args .base) (args .stride)) (loop .addresses) (loop .i) (loop .address) (omega arith) (loop .inv .1 .1 .1) (loop .inv .1 .0),
+        ),
+      ),
+    )
+
+returns : tie.Need-returns Inv-loop μ-loop
+returns c = λ k h. c .before .loop .inv .1 .1 .1 k (omega arith)
+
+pub strided-spec : {M : Type 1} → statement M
+strided-spec =
+    tie.close
+    (tie.spec
+    Inv-loop
+    μ-loop
+    loop-holds
+    mul-addresses
+    array-write-addresses
+    wrapping-add-u32-requires
+    add-i
+    loop-less
+    loop-again
+    returns)

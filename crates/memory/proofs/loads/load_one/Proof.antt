@@ -1,0 +1,41 @@
+-- `load_one` meets its contract. Assumes nothing.
+use borrow.Author.Needs.{needs}
+use Rattle.memory.proofs.loads.load_one.Statement.{statement}
+use Rattle.memory.proofs.loads.load_one.Tie as tie
+
+mul-to : tie.Need-mul-to
+mul-to c = search needs
+
+add-to : tie.Need-add-to
+add-to c = search needs
+
+mul-fetched : tie.Need-mul-fetched
+mul-fetched c = search needs
+
+element-copy-out-fetched : tie.Need-element-copy-out-fetched
+element-copy-out-fetched c = search needs
+
+fetched-requires : tie.Need-fetched-requires
+fetched-requires c κs = search needs
+
+mul-elements : tie.Need-mul-elements
+mul-elements c = search needs
+
+element-write-elements : tie.Need-element-write-elements
+element-write-elements c = search needs
+
+returns : tie.Need-returns
+returns c = rw (c .fetched .ensures)
+
+pub load-one-spec : {M : Type 1} → statement M
+load-one-spec =
+    tie.close
+    (tie.spec
+    mul-to
+    add-to
+    mul-fetched
+    element-copy-out-fetched
+    fetched-requires
+    mul-elements
+    element-write-elements
+    returns)

@@ -1,0 +1,6 @@
+-- Memory instructions: the window, the addresses and their tests, and what is moved.
+pub mod Rising
+pub mod Works
+pub mod Window
+pub mod Address
+pub mod Move

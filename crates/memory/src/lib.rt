@@ -1,0 +1,111 @@
+// Memory instructions over the lent elements and the lent window.
+use opcodes::Instruction;
+use state::Control;
+ghost use mathlib.Core.Path.{_≡_};
+ghost use Prim.Native.Nat.{_+_, _^_, _≤_, _<_};
+ghost use lib.ListN.{length, getD};
+ghost use Rattle.state.specs.State.{state};
+ghost use Rattle.memory.specs.Address.{chosenBy};
+ghost use Rattle.memory.specs.Move.{moved, movedBy, movedOf};
+
+mod addresses;
+mod loads;
+mod moves;
+mod stores;
+mod tests;
+mod window;
+mod works;
+
+// What the test of one element finds.
+pub enum Test {
+    Fine,
+    Misaligned,
+    Outside,
+}
+
+// How a memory instruction ends; a bad element is named.
+pub enum Access {
+    Done,
+    WindowRefused,
+    Misaligned(u64),
+    OutsideWindow(u64),
+}
+
+// Tests every operated element below n, and moves them if all are fine.
+fn all_or_none(
+    elements: &mut [u64; 1024],
+    window: &mut [u8],
+    addresses: &[u32; 64],
+    store: bool,
+    moe: bool,
+    mtf: bool,
+    vmr: u64,
+    quadword: bool,
+    origin: u64,
+    vc: usize,
+    n: usize,
+) -> Access
+    requires { ⌜ (vc < 16) × (n ≤ 64) × (origin + length (now window) ≤ 2 ^ 32) ⌝ }
+    ensures { λ r. ⌜ moved r (now (elements .exit)) (now (window .exit)) ≡ movedBy store quadword origin vc (chosenBy moe mtf vmr) (λ k. getD (now (addresses .entry)) k 0) n (now (elements .entry)) (now (window .entry)) ⌝ }
+{
+    let end = origin + window.len() as u64;
+    let access = tests::tested(addresses, moe, mtf, vmr, quadword, origin, end, n);
+    let Access::Done = access else {
+        return access;
+    };
+    moves::all(
+        elements,
+        window,
+        addresses,
+        store,
+        moe,
+        mtf,
+        vmr,
+        quadword,
+        origin,
+        vc,
+        n,
+    );
+    Access::Done
+}
+
+// Loads, stores, gathers or scatters. The window is tested first, then every operated element; only if all are fine is anything moved.
+pub fn transfer(
+    elements: &mut [u64; 1024],
+    control: Control,
+    instruction: Instruction,
+    base: u32,
+    stride: u32,
+    window: &mut [u8],
+    origin: u64,
+) -> Access
+    requires { ⌜ (instruction .vb .0 < 16) × (instruction .vc .0 < 16) × (control .vlr ≤ 64) ⌝ }
+    ensures { λ r. ⌜ moved r (now (elements .exit)) (now (window .exit)) ≡ movedOf (state (now (elements .entry)) control) instruction base stride (now (window .entry)) origin ⌝ }
+{
+    if !window::allowed(window.len() as u64, origin) {
+        return Access::WindowRefused;
+    }
+    let work = instruction.work;
+    let n = control.vlr as usize;
+    let addresses = addresses::of_elements(
+        elements,
+        instruction.scalar,
+        base,
+        stride,
+        instruction.vb.0 as usize,
+        n,
+    );
+    all_or_none(
+        elements,
+        window,
+        &addresses,
+        works::is_store(work),
+        instruction.moe,
+        instruction.mtf,
+        control.vmr,
+        works::is_quadword(work),
+        origin,
+        instruction.vc.0 as usize,
+        n,
+    )
+}

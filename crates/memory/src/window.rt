@@ -1,0 +1,75 @@
+// The window: whether it is allowed, and the numbers in it.
+ghost use mathlib.Core.Path.{_≡_};
+ghost use Prim.Native.Nat.{_-_, _≤_};
+ghost use lib.ListN.{length};
+ghost use Rattle.numbers.specs.Bytes.{bytesOf, numberOf};
+ghost use Rattle.memory.specs.Window.{allowed as allowedOf};
+
+// A window of so many bytes may stand at an origin.
+pub(crate) fn allowed(bytes: u64, origin: u64) -> bool
+    ensures { λ r. ⌜ r ≡ allowedOf bytes origin ⌝ }
+{
+    if bytes > 65536 {
+        return false;
+    }
+    (origin % 8 == 0) & (origin <= 4294967296 - bytes)
+}
+
+// Where an element's bytes begin in the window.
+pub(crate) fn offset_of(address: u32, origin: u64) -> usize
+    requires { ⌜ origin ≤ address ⌝ }
+    ensures { λ r. ⌜ r ≡ address - origin ⌝ }
+{
+    (address as u64 - origin) as usize
+}
+
+// The longword in four bytes.
+pub(crate) fn longword(part: &[u8]) -> u32
+    requires { ⌜ length (now part) ≡ 4 ⌝ }
+    ensures { λ r. ⌜ r ≡ numberOf (now (part .entry)) ⌝ }
+{
+    numbers::bytes::from_four(part[0], part[1], part[2], part[3])
+}
+
+// The quadword in eight bytes.
+pub(crate) fn quadword(part: &[u8]) -> u64
+    requires { ⌜ length (now part) ≡ 8 ⌝ }
+    ensures { λ r. ⌜ r ≡ numberOf (now (part .entry)) ⌝ }
+{
+    numbers::bytes::from_eight(
+        part[0],
+        part[1],
+        part[2],
+        part[3],
+        part[4],
+        part[5],
+        part[6],
+        part[7],
+    )
+}
+
+// Writes a longword, the low half of v, into four bytes.
+pub(crate) fn put_longword(part: &mut [u8], v: u64)
+    requires { ⌜ length (now part) ≡ 4 ⌝ }
+    ensures { λ _. ⌜ now (part .exit) ≡ bytesOf 4 v ⌝ }
+{
+    part[0] = (v % 256) as u8;
+    part[1] = (v / 256 % 256) as u8;
+    part[2] = (v / 256 / 256 % 256) as u8;
+    part[3] = (v / 256 / 256 / 256 % 256) as u8;
+}
+
+// Writes a quadword into eight bytes.
+pub(crate) fn put_quadword(part: &mut [u8], v: u64)
+    requires { ⌜ length (now part) ≡ 8 ⌝ }
+    ensures { λ _. ⌜ now (part .exit) ≡ bytesOf 8 v ⌝ }
+{
+    part[0] = (v % 256) as u8;
+    part[1] = (v / 256 % 256) as u8;
+    part[2] = (v / 256 / 256 % 256) as u8;
+    part[3] = (v / 256 / 256 / 256 % 256) as u8;
+    part[4] = (v / 256 / 256 / 256 / 256 % 256) as u8;
+    part[5] = (v / 256 / 256 / 256 / 256 / 256 % 256) as u8;
+    part[6] = (v / 256 / 256 / 256 / 256 / 256 / 256 % 256) as u8;
+    part[7] = (v / 256 / 256 / 256 / 256 / 256 / 256 / 256 % 256) as u8;
+}
