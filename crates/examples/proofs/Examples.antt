@@ -1,0 +1,147 @@
+-- Document 01, "Settled examples": the numbered ones, each computed from the definitions that the promises cite, as a call of one instruction. Assumes
+-- nothing.
+use mathlib.Core.Path.{_≡_, refl}
+use mathlib.Core.List.{List, [], _∷_, _++_}
+use Prim.Native.Nat.{ℕ}
+use lib.ListN.{replicate, set}
+use lib.Ieee.{size}
+use Rattle.numbers.specs.Signed.{signed, low32, overflows}
+use Rattle.state.specs.declared.Control.{Control}
+use Rattle.state.specs.Answer.{done}
+use Rattle.state.specs.State.{State, state, inRange}
+use Rattle.opcodes.specs.Opcodes.{opcodeOf}
+use Rattle.opcodes.specs.ControlWord.{refused, controlWordOf}
+use Rattle.longword.specs.Longword.{sumOf, differenceOf, productOf}
+use Rattle.floating.specs.Round.{rounded}
+use Rattle.floating.specs.Delivered.{delivered}
+use Rattle.element.specs.Receives.{resultOf}
+use Rattle.machine.specs.Kind.{kindOf}
+use Rattle.machine.specs.Run.{gathered, ended}
+use Rattle.machine.specs.Step.{operated, received, notes, written, worked, elementStep}
+use Rattle.machine.specs.Iota.{matching, turned, walked, iotaStep}
+use Rattle.machine.specs.Instruction.{stepOf, stepsBelow, wholeOf, instructionOf}
+use Rattle.memory.specs.Rising.{rising}
+use Rattle.memory.specs.Window.{allowed}
+use Rattle.memory.specs.Address.{testOf, testStep}
+use Rattle.memory.specs.Move.{loadStep, movedOf}
+use Rattle.execute.specs.Execute.{Outcome, outcome, accepted, executedOf}
+
+-- each starts with VEN 1 and all that is not named zero
+abbrev zeros : List ℕ
+zeros = replicate 1024 0
+
+abbrev control : ℕ → ℕ → ℕ → Control
+control vlr vaer vpsr = record { vlr = vlr; vmr = 0; vcr = 0; vaer = vaer; vpsr = vpsr }
+
+-- V1[0] and V2[0]
+abbrev holding : ℕ → ℕ → List ℕ
+holding a b = set (set zeros 64 a) 128 b
+
+-- one element: V3[0] becomes the work of V1[0] and V2[0]
+abbrev worksOut : ℕ → ℕ → ℕ → ℕ → Outcome
+worksOut opcode cntrl a b = executedOf (state (holding a b) (control 1 0 1)) opcode cntrl 0 0 0 [] 0
+
+-- done, with V3[0]; and with what VAER recorded
+abbrev gives : ℕ → ℕ → ℕ → Outcome
+gives a b r = outcome (done 0) (state (set (holding a b) 192 r) (control 1 0 1)) []
+
+abbrev records : ℕ → ℕ → ℕ → ℕ → Outcome
+records a b r vaer = outcome (done 0) (state (set (holding a b) 192 r) (control 1 vaer 0x80)) []
+
+-- 1. 81, 2025, scalar 1, VLR 2, V2 = 7FFFFFFF, 4, V5 all 9: V5 = 80000000, 5, then 9; VAER 00200020; VPSR 00000080
+abbrev before-5 : List ℕ
+before-5 = set (set (replicate 320 0) 128 0x7FFFFFFF) 129 4
+
+abbrev with-5 : ℕ → ℕ → List ℕ
+with-5 a b = before-5 ++ (a ∷ b ∷ replicate 62 9) ++ replicate 640 0
+
+pub example-1 : executedOf (state (with-5 9 9) (control 2 0 1)) 0x81 0x2025 1 0 0 [] 0 ≡ outcome (done 0) (state (with-5 0x80000000 5) (control 2 0x00200020 0x80)) []
+unfolding executedOf accepted instructionOf wholeOf stepsBelow stepOf elementStep operated worked received resultOf written gathered ended notes inRange opcodeOf refused controlWordOf kindOf sumOf differenceOf productOf signed low32 overflows
+example-1 = refl
+
+-- 2. multiply 80000000 by FFFFFFFF: 80000000, overflow
+pub example-2 : worksOut 0xA0 0x2123 0x80000000 0xFFFFFFFF ≡ records 0x80000000 0xFFFFFFFF 0x80000000 0x00080020
+unfolding executedOf accepted instructionOf wholeOf stepsBelow stepOf elementStep operated worked received resultOf written gathered ended notes inRange opcodeOf refused controlWordOf kindOf sumOf differenceOf productOf signed low32 overflows
+example-2 = refl
+
+-- 3. 0 minus 80000000: 80000000, overflow
+pub example-3 : worksOut 0x88 0x2123 0 0x80000000 ≡ records 0 0x80000000 0x80000000 0x00080020
+unfolding executedOf accepted instructionOf wholeOf stepsBelow stepOf elementStep operated worked received resultOf written gathered ended notes inRange opcodeOf refused controlWordOf kindOf sumOf differenceOf productOf signed low32 overflows
+example-3 = refl
+
+-- 4. F 4080 + 4080 = 4100
+pub example-4 : worksOut 0x84 0x2123 0x4080 0x4080 ≡ gives 0x4080 0x4080 0x4100
+unfolding executedOf accepted instructionOf wholeOf stepsBelow stepOf elementStep operated worked received resultOf written gathered ended notes inRange opcodeOf refused controlWordOf kindOf delivered rounded size
+example-4 = refl
+
+-- 5. F FFFF7FFF + itself: 8008
+pub example-5 : worksOut 0x84 0x2123 0xFFFF7FFF 0xFFFF7FFF ≡ records 0xFFFF7FFF 0xFFFF7FFF 0x8008 0x00080008
+unfolding executedOf accepted instructionOf wholeOf stepsBelow stepOf elementStep operated worked received resultOf written gathered ended notes inRange opcodeOf refused controlWordOf kindOf delivered rounded size
+example-5 = refl
+
+-- 6. F 0080 times 4000: 0 without EXC, 8001 with
+pub example-6-quiet : worksOut 0xA4 0x0123 0x0080 0x4000 ≡ gives 0x0080 0x4000 0
+unfolding executedOf accepted instructionOf wholeOf stepsBelow stepOf elementStep operated worked received resultOf written gathered ended notes inRange opcodeOf refused controlWordOf kindOf delivered rounded size
+example-6-quiet = refl
+
+pub example-6 : worksOut 0xA4 0x2123 0x0080 0x4000 ≡ records 0x0080 0x4000 0x8001 0x00080001
+unfolding executedOf accepted instructionOf wholeOf stepsBelow stepOf elementStep operated worked received resultOf written gathered ended notes inRange opcodeOf refused controlWordOf kindOf delivered rounded size
+example-6 = refl
+
+-- 7. L to F of 16,777,217: 00014C80
+pub example-7 : worksOut 0xEC 0x2123 0 16_777_217 ≡ gives 0 16_777_217 0x00014C80
+unfolding executedOf accepted instructionOf wholeOf stepsBelow stepOf elementStep operated worked received resultOf written gathered ended notes inRange opcodeOf refused controlWordOf kindOf delivered rounded size
+example-7 = refl
+
+-- 8. F 4120 to L: rounded 3, truncated 2. C120 truncated: FFFFFFFE
+pub example-8-rounded : worksOut 0xEC 0x2523 0 0x4120 ≡ gives 0 0x4120 3
+unfolding executedOf accepted instructionOf wholeOf stepsBelow stepOf elementStep operated worked received resultOf written gathered ended notes inRange opcodeOf refused controlWordOf kindOf delivered rounded size
+example-8-rounded = refl
+
+pub example-8-truncated : worksOut 0xEC 0x2423 0 0x4120 ≡ gives 0 0x4120 2
+unfolding executedOf accepted instructionOf wholeOf stepsBelow stepOf elementStep operated worked received resultOf written gathered ended notes inRange opcodeOf refused controlWordOf kindOf delivered rounded size
+example-8-truncated = refl
+
+pub example-8-negative : worksOut 0xEC 0x2423 0 0xC120 ≡ gives 0 0xC120 0xFFFFFFFE
+unfolding executedOf accepted instructionOf wholeOf stepsBelow stepOf elementStep operated worked received resultOf written gathered ended notes inRange opcodeOf refused controlWordOf kindOf delivered rounded size
+example-8-negative = refl
+
+-- 9. F 5000 to L: 80000000 with overflow; D000: 80000000 without
+pub example-9-rounded : worksOut 0xEC 0x2523 0 0x5000 ≡ records 0 0x5000 0x80000000 0x00080020
+unfolding executedOf accepted instructionOf wholeOf stepsBelow stepOf elementStep operated worked received resultOf written gathered ended notes inRange opcodeOf refused controlWordOf kindOf delivered rounded size
+example-9-rounded = refl
+
+pub example-9-truncated : worksOut 0xEC 0x2423 0 0x5000 ≡ records 0 0x5000 0x80000000 0x00080020
+unfolding executedOf accepted instructionOf wholeOf stepsBelow stepOf elementStep operated worked received resultOf written gathered ended notes inRange opcodeOf refused controlWordOf kindOf delivered rounded size
+example-9-truncated = refl
+
+pub example-9-negative-rounded : worksOut 0xEC 0x2523 0 0xD000 ≡ gives 0 0xD000 0x80000000
+unfolding executedOf accepted instructionOf wholeOf stepsBelow stepOf elementStep operated worked received resultOf written gathered ended notes inRange opcodeOf refused controlWordOf kindOf delivered rounded size
+example-9-negative-rounded = refl
+
+pub example-9-negative-truncated : worksOut 0xEC 0x2423 0 0xD000 ≡ gives 0 0xD000 0x80000000
+unfolding executedOf accepted instructionOf wholeOf stepsBelow stepOf elementStep operated worked received resultOf written gathered ended notes inRange opcodeOf refused controlWordOf kindOf delivered rounded size
+example-9-negative-truncated = refl
+
+-- 10. IOTA, VLR 4, VMR B, stride 8: MTF 1 gives 0, 8, 24, VCR 3; MTF 0 gives 16, VCR 1. Elements from VCR on keep
+abbrev counted : ℕ → Control
+counted vcr = record { vlr = 4; vmr = 0xB; vcr = vcr; vaer = 0; vpsr = 1 }
+
+abbrev sevens : List ℕ
+sevens = set (set (set (set zeros 192 7) 193 7) 194 7) 195 7
+
+pub example-10-true : executedOf (state sevens (counted 0)) 0xED 0x6003 8 0 0 [] 0 ≡ outcome (done 0) (state (set (set (set sevens 192 0) 193 8) 194 24) (counted 3)) []
+unfolding executedOf accepted instructionOf wholeOf stepsBelow stepOf iotaStep walked turned matching ended inRange opcodeOf refused controlWordOf kindOf
+example-10-true = refl
+
+pub example-10-false : executedOf (state sevens (counted 0)) 0xED 0x2003 8 0 0 [] 0 ≡ outcome (done 0) (state (set sevens 192 16) (counted 1)) []
+unfolding executedOf accepted instructionOf wholeOf stepsBelow stepOf iotaStep walked turned matching ended inRange opcodeOf refused controlWordOf kindOf
+example-10-false = refl
+
+-- 11. base FFFFFFFC, stride 4: element 1 is at 0. A longword load of element 1 alone, from a window at 0
+abbrev second : Control
+second = record { vlr = 2; vmr = 2; vcr = 0; vaer = 0; vpsr = 1 }
+
+pub example-11 : executedOf (state zeros second) 0x34 0xE003 0 0xFFFFFFFC 4 (1 ∷ 2 ∷ 3 ∷ 4 ∷ []) 0 ≡ outcome (done 0) (state (set zeros 193 0x04030201) second) (1 ∷ 2 ∷ 3 ∷ 4 ∷ [])
+unfolding executedOf accepted movedOf allowed rising testOf testStep loadStep inRange opcodeOf refused controlWordOf
+example-11 = refl

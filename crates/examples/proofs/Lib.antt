@@ -1,0 +1,2 @@
+-- The settled examples.
+pub mod Examples
