@@ -13,4 +13,5 @@ pub mod Ordering
 pub mod Refusing
 pub mod Double
 pub mod Shown
+pub mod Signed
 pub mod Examples

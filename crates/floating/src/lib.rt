@@ -10,7 +10,7 @@ mod word;
 
 ghost use mathlib.Core.Path.{_≡_};
 ghost use Rattle.floating.specs.Format.{F};
-ghost use Rattle.floating.specs.Reading.{Shows, longwordReading, bitsOf};
+ghost use Rattle.floating.specs.Reading.{Shows, longwordReading, kindOf, bitsOf};
 ghost use Rattle.floating.specs.Operations.{answered, sum, difference, product, compared, roundedLongword, truncatedLongword, fromLongword};
 
 // What an operation gives, before EXC is looked at.
@@ -130,4 +130,22 @@ pub fn read_longword(word: u32) -> Reading
     ensures { λ r. ⌜ (r ≡ longwordReading word) × (bitsOf r ≡ word) ⌝ }
 {
     Reading::Longword(read::signed(word))
+}
+
+// The number of a reading's case.
+pub fn kind_of(r: Reading) -> u64
+    ensures { λ k. ⌜ k ≡ kindOf r ⌝ }
+{
+    match r {
+        Reading::Number(_) => 0,
+        Reading::Longword(_) => 1,
+        Reading::Reserved(_) => 2,
+    }
+}
+
+// A reading's 64 bits.
+pub fn bits_of(r: Reading) -> u64
+    ensures { λ b. ⌜ b ≡ bitsOf r ⌝ }
+{
+    read::bits_of(r)
 }

@@ -4,11 +4,12 @@ use crate::word;
 ghost use mathlib.Core.Path.{_≡_};
 ghost use mathlib.Core.Bool.{false};
 ghost use Prim.Native.Nat.{_%_, _^_, _<_};
+ghost use lib.Ieee.{binary64, toBits};
 ghost use lib.Ieee.Exact.{HasValue};
 ghost use mir.Syntax.{w32};
-ghost use mir.Val.{toZ};
+ghost use mir.Val.{toZ, ofZ};
 ghost use Rattle.floating.specs.Format.{F, exponentOf};
-ghost use Rattle.floating.specs.Reading.{Shows};
+ghost use Rattle.floating.specs.Reading.{Shows, bitsOf};
 ghost use Rattle.floating.specs.Steps.{Reads};
 
 // 2 ^ (e - 152)
@@ -56,4 +57,34 @@ pub fn signed(l: u32) -> i32
         return l as i32;
     }
     -1 - (4294967295 - l) as i32
+}
+
+// The 32 bits of a number, in two's complement.
+fn unsigned(i: i32) -> u32
+    ensures { λ r. ⌜ r ≡ ofZ w32 i ⌝ }
+{
+    if 0 <= i {
+        return i as u32;
+    }
+    4294967295 - (-1 - i) as u32
+}
+
+// The bits of a binary64 number; a word has no NaN.
+fn number_bits(x: f64) -> u64
+    ensures { λ r. ⌜ r ≡ toBits binary64 x ⌝ }
+{
+    if x == x {
+        return f64::to_bits(x);
+    }
+    9221120237041090560
+}
+
+pub fn bits_of(r: Reading) -> u64
+    ensures { λ b. ⌜ b ≡ bitsOf r ⌝ }
+{
+    match r {
+        Reading::Number(x) => number_bits(x),
+        Reading::Longword(i) => word::wide(unsigned(i)),
+        Reading::Reserved(c) => c as u64,
+    }
 }

@@ -3,7 +3,8 @@ ghost use mathlib.Core.Path.{_≡_};
 ghost use mathlib.Core.Bool.{cond};
 ghost use Prim.Native.Nat.{_≤_};
 ghost use Rattle.floating.specs.declared.Outcome.the-variants.{Word};
-ghost use Rattle.floating.specs.Format.{F};
+ghost use Rattle.floating.specs.Format.{F, isReserved};
+ghost use Rattle.floating.specs.Reading.{shownBits};
 ghost use Rattle.floating.specs.Operations.{answered, sum, difference, product, compared, roundedLongword, truncatedLongword, fromLongword};
 ghost use Rattle.floating_c.specs.Given.{isSet, joined, joinedBit, shorter, shortest, Multiplied};
 
@@ -52,9 +53,9 @@ pub extern "C" fn kuj_f_multiply(a: u32, b: u32, exc: u32) -> u64
     join(floating::multiply(a, b, exc != 0))
 }
 
-// The value is the mask bit.
+// Whether a stands in the relation <2:0> to b: the value is the mask bit.
 #[no_mangle]
-pub extern "C" fn kuj_f_compare(relation: u32, a: u32, b: u32) -> u64
+pub extern "C" fn kuj_f_compare(a: u32, b: u32, relation: u32) -> u64
     ensures { λ r. ⌜ r ≡ joinedBit (compared F relation a b) ⌝ }
 {
     join_bit(floating::compare(relation, a, b))
@@ -83,25 +84,38 @@ pub extern "C" fn kuj_f_from_longword(longword: u32) -> u64
     wide(r.value)
 }
 
+// The kind of a word's F_floating reading.
+#[no_mangle]
+pub extern "C" fn kuj_f_reading_kind(word: u32) -> u64
+    ensures { λ r. ⌜ r ≡ cond (isReserved F word) 2 0 ⌝ }
+{
+    floating::kind_of(floating::read_floating(word))
+}
+
+// Its 64 bits.
+#[no_mangle]
+pub extern "C" fn kuj_f_reading_bits(word: u32) -> u64
+    ensures { λ r. ⌜ r ≡ shownBits F word ⌝ }
+{
+    floating::bits_of(floating::read_floating(word))
+}
+
 fn shorter_of(x: usize, y: usize) -> usize
     ensures { λ r. ⌜ (r ≡ shorter x y) × (r ≤ x) × (r ≤ y) ⌝ }
 {
     if x < y { x } else { y }
 }
 
-// The products of two runs of words, each into its place in out, as far as the shortest of the three goes; the rest of out is kept. Returns their type bits together.
+// The products of two runs of words, each into its place in out, as far as the shortest of the three goes; the rest of out is kept. EXC is clear.
 #[no_mangle]
-pub extern "C" fn kuj_f_multiply_all(a: &[u32], b: &[u32], out: &mut [u32], exc: u32) -> u32
-    ensures { λ r. ⌜ Multiplied (isSet exc) (now (a .entry)) (now (b .entry)) (now (out .entry)) (now (out .exit)) (shortest (now (a .entry)) (now (b .entry)) (now (out .entry))) r ⌝ }
+pub extern "C" fn kuj_f_multiply_all(a: &[u32], b: &[u32], out: &mut [u32])
+    ensures { λ _. ⌜ Multiplied (now (a .entry)) (now (b .entry)) (now (out .entry)) (now (out .exit)) (shortest (now (a .entry)) (now (b .entry)) (now (out .entry))) ⌝ }
 {
     let n = shorter_of(shorter_of(a.len(), b.len()), out.len());
-    let mut types = 0;
     let mut i = 0;
     while i < n {
-        let r = floating::multiply(a[i], b[i], exc != 0);
+        let r = floating::multiply(a[i], b[i], false);
         out[i] = r.value;
-        types = types | r.types;
         i += 1;
     }
-    types
 }

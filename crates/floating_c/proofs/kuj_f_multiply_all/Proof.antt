@@ -1,19 +1,19 @@
--- `floating_c::kuj_f_multiply_all` meets its contract. Assumes nothing.
+-- `floating_c::kuj_f_multiply_all` meets its contract. The invariant: the first i products are made. Assumes nothing.
 use borrow.Author.Needs.{needs}
 use native.Mathlib.Omega.{arith}
 use Prim.Native.Nat.{_-_, _≤_}
 use mathlib.Core.Path.{_≡_}
 use lib.ListN.{length, length-set}
-use Rattle.floating_c.specs.Given.{isSet, Multiplied}
+use Rattle.floating_c.specs.Given.{Multiplied}
 use Rattle.floating_c.proofs.Runs.{starts, turns, ends}
 use Rattle.floating_c.proofs.kuj_f_multiply_all.Statement.{statement}
 use Rattle.floating_c.proofs.kuj_f_multiply_all.Tie as tie
 
 abbrev Inv-loop : tie.InvT-loop
-Inv-loop a b out₀ exc n types₀ i₀ out types i = (i ≤ n) × (n ≤ length a) × (n ≤ length b) × (n ≤ length out₀) × (length out ≡ length out₀) × Multiplied (isSet exc) a b out₀ out i types
+Inv-loop a b out₀ n i₀ out i = (i ≤ n) × (n ≤ length a) × (n ≤ length b) × (n ≤ length out₀) × (length out ≡ length out₀) × Multiplied a b out₀ out i
 
 abbrev μ-loop : tie.MeasureT-loop
-μ-loop a b out₀ exc n types₀ i₀ out types i = n - i
+μ-loop a b out₀ n i₀ out i = n - i
 
 shorter-of-requires : tie.Need-shorter-of-requires Inv-loop μ-loop
 shorter-of-requires c κs = search needs
@@ -22,7 +22,7 @@ shorter-of-requires-2 : tie.Need-shorter-of-requires-2 Inv-loop μ-loop
 shorter-of-requires-2 c κs = search needs
 
 loop-holds : tie.Need-loop-holds Inv-loop μ-loop
-loop-holds c = (omega arith, omega arith, omega arith, omega arith, search needs, starts _ _ _ _)
+loop-holds c = (omega arith, omega arith, omega arith, omega arith, search needs, starts _ _ _)
 
 mul-multiply : tie.Need-mul-multiply Inv-loop μ-loop
 mul-multiply c = search needs
@@ -53,13 +53,13 @@ loop-less c = search needs
 
 loop-again : tie.Need-loop-again Inv-loop μ-loop
 loop-again c =
-    let l = c .before .before .before .before .before .loop in (
+    let l = c .before .before .before .before .loop in (
       omega arith,
       omega arith,
       omega arith,
       omega arith,
       simp length-set (search needs),
-      turns _ _ _ _ (l .out) (l .i) (l .types) (c .before .multiply .result) (omega arith) (c .before .multiply .ensures) (l .inv .5),
+      turns _ _ _ (l .out) (l .i) (c .multiply .result) (omega arith) (c .multiply .ensures) (l .inv .5),
     )
 
 same-length : tie.Need-same-length Inv-loop μ-loop
