@@ -1,0 +1,25 @@
+#!/bin/sh
+# Times the proved library against plain C (gcc -O2) over the same inputs in one run.
+#   bench/run.sh [LIMIT]
+# The table goes to standard output. The exit status is 1 if the two ever differ, or if a LIMIT is
+# given and a group's ratio is above it. KUJAWIAN_ARCHIVES names a folder that already holds
+# libkujawian.a; else it is built. Some 20 seconds beside that.
+set -eu
+cd "$(dirname "$0")/.."
+archives=${KUJAWIAN_ARCHIVES:-}
+if [ -z "$archives" ]; then
+    rt staticlib kujawian >&2
+    archives=target/staticlib
+fi
+out=target/bench
+mkdir -p "$out"
+compile() {
+    gcc -std=c11 -O2 -falign-functions=64 -Wall -Wextra -Iinclude -Ibench -c "$@"
+}
+compile -o "$out/bench.o" bench/bench.c
+compile -o "$out/plain.o" bench/plain.c
+compile -DTABLE=proved -o "$out/proved_calls.o" bench/calls.c
+compile -DTABLE=plain -include plain_names.h -o "$out/plain_calls.o" bench/calls.c
+gcc -o "$out/bench" "$out/bench.o" "$out/plain.o" "$out/proved_calls.o" "$out/plain_calls.o" \
+    "$archives/libkujawian.a"
+exec "$out/bench" "$@"

@@ -1,0 +1,191 @@
+/*
+ * Kujawian: DEC's VAX vector instructions, as document 01 fixes them. The calls of libkujawian.a.
+ *
+ * Every call is total: it takes any numbers and any lengths, and ends. It returns a number of
+ * document 01 and writes what stands beside that number to *beside, always: 0 where document 01
+ * gives 0, and after a done call that reads nothing.
+ *
+ *    0  done                        what was read, or 0
+ *    1  reserved opcode             queue position (0 for a single instruction)
+ *    2  reserved control word       queue position (0 for a single instruction)
+ *    3  processor disabled          0
+ *    4  window not allowed          0
+ *    5  misaligned                  element, the lowest bad one
+ *    6  outside the window          element, the lowest bad one
+ *    7  memory opcode in a queue    queue position
+ *    8  more than 16 in a queue, or its parts of unequal length
+ *                                   0
+ *    9  order not permitted         list position
+ *   10  bad saved file              record number
+ *   11  control value refused       0
+ *   12  state out of range          0
+ *   13  no such field               0
+ *
+ * After a number other than 0 nothing has changed but *beside. Where a call gives several numbers
+ * they are named below in the order in which they are tested; the first that applies is given.
+ *
+ * The state is two arrays of the caller's:
+ *
+ *   elements  1,024 numbers; element e of register r at r * 64 + e
+ *   control   5 numbers: VLR, VMR, VCR, VAER, VPSR, in the order of the saved records 1,024 to 1,028.
+ *             Range: VLR and VCR 0 to 64; VMR any; VAER bits 0, 1, 2, 3, 5 and 16 to 31; VPSR bit 0
+ *             (VEN) and bit 7 (AEX). Any other contents get 12, so a state is safe to hand in
+ *             wherever it came from.
+ *
+ * A slice is a pointer followed by its length, counted in items. The pointer of an empty slice is not
+ * null. Arrays, slices and results lent to one call do not overlap, unless all are const.
+ *
+ * A call keeps nothing behind: all it knows is what it is lent. Calls on different states may run at
+ * the same time.
+ */
+#ifndef KUJAWIAN_H
+#define KUJAWIAN_H
+
+#include <stddef.h>
+#include <stdint.h>
+
+#ifdef __cplusplus
+extern "C" {
+#endif
+
+enum {
+    KUJ_ELEMENTS = 1024,    /* length of elements */
+    KUJ_CONTROLS = 5,       /* length of control */
+    KUJ_FILE_BYTES = 16464  /* length of a saved file: 1,029 records of 16 bytes */
+};
+
+/* Places in control. */
+enum { KUJ_VLR, KUJ_VMR, KUJ_VCR, KUJ_VAER, KUJ_VPSR };
+
+/* Kinds of a field, named by the caller of a reading. */
+enum { KUJ_F_FLOATING, KUJ_LONGWORD };
+
+/* What a reading gives back. */
+enum { KUJ_READ_BINARY64, KUJ_READ_LONGWORD, KUJ_READ_RESERVED };
+
+/* ---- Instructions ---- */
+
+/*
+ * One instruction: the opcode's second byte (after FD), its control word and its operands. scalar is
+ * read by odd operate opcodes (IOTA's stride), base by memory opcodes, stride by even memory opcodes,
+ * window and origin by memory opcodes; a part that is not read may hold anything. Addresses go modulo
+ * 2^32, so that a negative stride is one near 2^32.
+ *
+ * 12, 1, 3, 2; a memory opcode also 4, then 5 or 6. 1 and 2 have 0 beside them, 5 and 6 the element.
+ * 0: elements and control are those after the instruction, the window too for a store or scatter.
+ * Nothing else of the window is written. Beside: 0.
+ */
+uint32_t kuj_execute(uint64_t elements[1024], uint64_t control[5],
+                     uint8_t opcode, uint16_t cntrl, uint64_t scalar, uint32_t base, uint32_t stride,
+                     uint8_t *window, size_t window_len, uint64_t origin,
+                     uint64_t *beside);
+
+/*
+ * A queue of at most 16 operate instructions, straight through. Instruction p is opcodes[p],
+ * cntrls[p], scalars[p]; the three lengths are equal, or the answer is 8.
+ *
+ * 12, 8, 3; then for each position from 0: 1, 7, 2, with the position beside it.
+ * 0: elements and control are those after the last instruction; VEN and AEX change at the end, if an
+ * exception was recorded. Beside: 0.
+ */
+uint32_t kuj_run(uint64_t elements[1024], uint64_t control[5],
+                 const uint8_t *opcodes, size_t opcodes_len,
+                 const uint16_t *cntrls, size_t cntrls_len,
+                 const uint64_t *scalars, size_t scalars_len,
+                 uint64_t *beside);
+
+/*
+ * The same queue, step by step in the order of a list. A step is instruction position * 64 + element,
+ * for each element below VLR; an IOTA is one step, with element 0, even at VLR 0. A list is permitted
+ * when it holds every step once and nothing else, and each step comes after those that it must follow:
+ * steps of earlier instructions that touch the same register element, mask bit or VCR, where one of
+ * the two writes it.
+ *
+ * As kuj_run; then 9 with the position of the first entry at fault beside it, or with the list's
+ * length if only steps are missing.
+ * 0: elements and control are what kuj_run leaves. Beside: 0.
+ */
+uint32_t kuj_run_order(uint64_t elements[1024], uint64_t control[5],
+                       const uint8_t *opcodes, size_t opcodes_len,
+                       const uint16_t *cntrls, size_t cntrls_len,
+                       const uint64_t *scalars, size_t scalars_len,
+                       const uint64_t *order, size_t order_len,
+                       uint64_t *beside);
+
+/* ---- Saved state and readings ---- */
+
+/*
+ * Saves the state (docs/FORMATS.md has the format).
+ *
+ * 12; then 10 if file_len is below 16,464, with the first record that has no room, file_len / 16.
+ * 0: the first 16,464 bytes of file are the saved state, the rest is kept. Beside: 0.
+ */
+uint32_t kuj_save(const uint64_t elements[1024], const uint64_t control[5],
+                  uint8_t *file, size_t file_len,
+                  uint64_t *beside);
+
+/*
+ * Loads a saved state. The old contents of elements and control are not looked at.
+ *
+ * 10, with the first record that is missing, cut, out of range, misnumbered, has a filler byte that is
+ * not zero, or is extra (1,029).
+ * 0: elements and control are the saved ones. Beside: 0.
+ */
+uint32_t kuj_load(uint64_t elements[1024], uint64_t control[5],
+                  const uint8_t *file, size_t file_len,
+                  uint64_t *beside);
+
+/*
+ * Reads one element as a panel shows it; kind is KUJ_F_FLOATING or KUJ_LONGWORD. Bits <31:0> of the
+ * element are read. It works while the processor is disabled.
+ *
+ * 12; then 13 for a register over 15, an element over 63 or another kind. *kind_read and *bits are
+ * written on 0 alone:
+ *   *kind_read KUJ_READ_BINARY64   *bits: those of the binary64 number that equals it exactly
+ *              KUJ_READ_LONGWORD   *bits: the 32 bits as they stand, two's complement; zeros above
+ *              KUJ_READ_RESERVED   *bits: the reserved operand's code, bits <3:0>
+ * Beside: 0.
+ */
+uint32_t kuj_reading(const uint64_t elements[1024], const uint64_t control[5],
+                     uint8_t reg, uint8_t element, uint8_t kind,
+                     uint64_t *kind_read, uint64_t *bits,
+                     uint64_t *beside);
+
+/* ---- Control moves ---- */
+
+/*
+ * Each reads one number, which stands beside 0; the halves of VMR are 32 bits. Nothing changes.
+ *
+ * 12; then 3, but for VAER and VPSR, which are read while the processor is disabled too.
+ */
+uint32_t kuj_read_vlr(const uint64_t control[5], uint64_t *beside);
+uint32_t kuj_read_vcr(const uint64_t control[5], uint64_t *beside);
+uint32_t kuj_read_vmr_low(const uint64_t control[5], uint64_t *beside);
+uint32_t kuj_read_vmr_high(const uint64_t control[5], uint64_t *beside);
+uint32_t kuj_read_vaer(const uint64_t control[5], uint64_t *beside);
+uint32_t kuj_read_vpsr(const uint64_t control[5], uint64_t *beside);
+
+/*
+ * Each writes one number and changes no other; a write of one half of VMR keeps the other half.
+ *
+ * 12, 3; VLR and VCR then 11 for a value above 64. 0: control is altered. Beside: 0.
+ */
+uint32_t kuj_write_vlr(uint64_t control[5], uint32_t value, uint64_t *beside);
+uint32_t kuj_write_vcr(uint64_t control[5], uint32_t value, uint64_t *beside);
+uint32_t kuj_write_vmr_low(uint64_t control[5], uint32_t value, uint64_t *beside);
+uint32_t kuj_write_vmr_high(uint64_t control[5], uint32_t value, uint64_t *beside);
+
+/*
+ * Writes VPSR; never refused as disabled, for this is how the processor is enabled.
+ *
+ * 12; then 11 for <3:0> other than 0, 1, 2, 3, 4, 8, 9, or a one in <4>, <23:8> or <30:26>.
+ * 0: a one in bit 1 has cleared VPSR and VAER, a one in bit 7 has cleared AEX and VAER, and VEN is
+ * bit 0. Bits 2, 3, 5, 6, 24, 25 and 31 have no effect. Beside: 0.
+ */
+uint32_t kuj_write_vpsr(uint64_t control[5], uint32_t value, uint64_t *beside);
+
+#ifdef __cplusplus
+}
+#endif
+
+#endif
