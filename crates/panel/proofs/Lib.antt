@@ -1,0 +1,2 @@
+-- What the tests of a reading tell.
+pub mod Showing

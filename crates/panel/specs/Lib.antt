@@ -1,0 +1,2 @@
+-- What a panel field shows.
+pub mod Panel
