@@ -1,0 +1,48 @@
+-- The shape that the calls share: take the five numbers apart, call, store the record, write beside, return the number. Assumes nothing.
+use mathlib.Core.Path.{_≡_, refl, sym, ap, _∙_}
+use mathlib.Core.List.{List}
+use Prim.Native.Nat.{ℕ}
+use lib.ListN.{getD, set}
+use lib.Seq.{set-getD}
+use Rattle.state.specs.declared.Control.{Control}
+use Rattle.state.specs.Answer.{Answer, answer}
+use Rattle.state.specs.State.{State, state}
+use Rattle.control.specs.Moves.{Outcome}
+use Rattle.kujawian.specs.Face.{controlOf, controlInto, written, left}
+
+-- storing what was read changes nothing: a refusal, after which the record is the one handed over, leaves the five numbers as they were
+pub stored-back : (l : List ℕ) → controlInto l (controlOf l) ≡ l
+unfolding controlOf controlInto
+stored-back l =
+    ap (λ (m : List ℕ). set (set (set (set m 1 (getD l 1 0)) 2 (getD l 2 0)) 3 (getD l 3 0)) 4 (getD l 4 0)) (set-getD l 0 0)
+    ∙ ap (λ (m : List ℕ). set (set (set m 2 (getD l 2 0)) 3 (getD l 3 0)) 4 (getD l 4 0)) (set-getD l 1 0)
+    ∙ ap (λ (m : List ℕ). set (set m 3 (getD l 3 0)) 4 (getD l 4 0)) (set-getD l 2 0)
+    ∙ ap (λ (m : List ℕ). set m 4 (getD l 4 0)) (set-getD l 3 0)
+    ∙ set-getD l 4 0
+
+-- what a definition says of the record is what it says of the five numbers; `call` is what the layer below does with the record
+module _ {A : Type 0} (call : Control → A) (l : List ℕ) (c : Control) (taken : c ≡ controlOf l) where
+  pub gives : (a given : A) → given ≡ call c → a ≡ given → a ≡ call (controlOf l)
+  gives a given e g = g ∙ e ∙ ap call taken
+
+-- what an answer stands beside
+pub answered : {B : Type 0} (a given : Answer) (x : B) → a ≡ given → _≡_ {A = Answer × B} (a, x) (given, x)
+answered a given x e = ap (λ (y : Answer). (y, x)) e
+
+-- a control write
+pub writes : (move : Control → Outcome) (l : List ℕ) (c : Control) → c ≡ controlOf l → (made : Outcome) (a : Answer × List ℕ) → made ≡ move c → a ≡ written l made → a ≡ written l (move (controlOf l))
+writes move l c taken made a e s = gives (λ (k : Control). written l (move k)) l c taken a (written l made) (ap (written l) e) s
+
+-- what was answered and stored
+pub altered : (l after : List ℕ) (n b : ℕ) (o : Outcome) → answer n b ≡ o .answer → after ≡ controlInto l (o .control) → (answer n b, after) ≡ written l o
+unfolding written
+altered l after n b o e s = ap (λ (a : Answer). (a, after)) e ∙ ap (λ (m : List ℕ). (o .answer, m)) s
+
+-- a call that alters the state
+pub leaves : (call : Control → Answer × State) (l : List ℕ) (c : Control) → c ≡ controlOf l → (after elements : List ℕ) (next : Control) (n b : ℕ) (a : Answer) → (a, state elements next) ≡ call c
+    → after ≡ controlInto l next → answer n b ≡ a → (answer n b, elements, after) ≡ left l (call (controlOf l))
+unfolding left
+leaves call l c taken after elements next n b a e s g =
+    ap (λ (x : Answer). (x, elements, after)) g
+    ∙ ap (λ (m : List ℕ). (a, elements, m)) s
+    ∙ ap (left l) (e ∙ ap call taken)

@@ -1,0 +1,50 @@
+-- The state as C hands it over: 1,024 numbers, element e of register r at r*64+e, and the control record as five numbers.
+-- Document 01, "Numbers given back": a call returns the number; what stands beside it goes to *beside.
+use mathlib.Core.Bool.{not, _&&_}
+use mathlib.Core.List.{List}
+use Prim.Native.Nat.{ℕ}
+use lib.Dec.{T}
+use lib.Ieee.{isNan}
+use lib.ListN.{getD, set}
+use Rattle.numbers.specs.Choice.{pick}
+use Rattle.numbers.specs.Halves.{low}
+use Rattle.state.specs.declared.Control.{Control}
+use Rattle.state.specs.Answer.{Answer, done}
+use Rattle.state.specs.State.{State, state, inRange}
+use Rattle.state.specs.Elements.{at}
+use Rattle.control.specs.Moves.{Outcome}
+use Rattle.floating.specs.declared.Reading.{Reading}
+use Rattle.floating.specs.declared.Reading.the-variants.{Number, Longword, Reserved}
+use Rattle.panel.specs.Panel.{isField, fieldAnswer, kindShown, bitsShown}
+
+-- the control record of five numbers, in the order of the saved records
+unfoldable pub controlOf : List ℕ → Control
+controlOf l = record { vlr = getD l 0 0; vmr = getD l 1 0; vcr = getD l 2 0; vaer = getD l 3 0; vpsr = getD l 4 0 }
+
+-- the five numbers after a control record was stored there
+unfoldable pub controlInto : List ℕ → Control → List ℕ
+controlInto l c = set (set (set (set (set l 0 (c .vlr)) 1 (c .vmr)) 2 (c .vcr)) 3 (c .vaer)) 4 (c .vpsr)
+
+abbrev pub stateOf : List ℕ → List ℕ → State
+stateOf elements control = state elements (controlOf control)
+
+-- what a control write gives back, and the five numbers after it
+unfoldable pub written : List ℕ → Outcome → Answer × List ℕ
+written control o = (o .answer, controlInto control (o .control))
+
+-- what a call that alters the state gives back, and the elements and the five numbers after it
+unfoldable pub left : List ℕ → Answer × State → Answer × List ℕ × List ℕ
+left control o = (o .0, o .1 .elements, controlInto control (o .1 .control))
+
+-- a reading has bits: a binary64 number is no NaN
+abbrev pub IsNumber : Reading → Type 0
+IsNumber (Number x) = T (not (isNan x))
+IsNumber (Longword i) = Unit {0}
+IsNumber (Reserved code) = Unit {0}
+
+-- what a reading gives back, and *kind_read and *bits after it: a refused one leaves them as they were
+unfoldable pub fieldRead : State → ℕ → ℕ → ℕ → ℕ → ℕ → Answer × ℕ × ℕ
+fieldRead s register element kind kindBefore bitsBefore =
+    pick (inRange (s .control) && isField register element kind)
+    (done 0, kindShown kind (low (at (s .elements) register element)), bitsShown kind (low (at (s .elements) register element)))
+    (fieldAnswer (s .control) register element kind, kindBefore, bitsBefore)

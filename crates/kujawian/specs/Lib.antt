@@ -1,0 +1,2 @@
+-- The state as C hands it over, and what each call leaves of it.
+pub mod Face

@@ -1,0 +1,169 @@
+// Every call of Kujawian, exported for C over plain data. Each returns document 01's number and
+// writes what stands beside it; after a refusal nothing else has changed.
+mod answers;
+mod record;
+mod shown;
+
+use control::Written;
+use panel::Panel;
+use state::Element;
+use state::Register;
+ghost use mathlib.Core.Path.{_≡_};
+ghost use Rattle.state.specs.Answer.{answer};
+ghost use Rattle.control.specs.Moves.{outcomeOf, vlrRead, vcrRead, vmrLowRead, vmrHighRead, vaerRead, vpsrRead, vlrWritten, vcrWritten, vmrLowWritten, vmrHighWritten, vpsrWritten};
+ghost use Rattle.saved.specs.Save.{saving};
+ghost use Rattle.saved.specs.Load.{loading};
+ghost use Rattle.kujawian.specs.Face.{controlOf, stateOf, written, left, fieldRead};
+
+#[no_mangle]
+pub extern "C" fn kuj_read_vlr(control: &[u64; 5], beside: &mut u64) -> u32
+    ensures { λ r. ⌜ answer r (now (beside .exit)) ≡ vlrRead (controlOf (now (control .entry))) ⌝ }
+{
+    answers::of_read(control::read_vlr(record::of(control)), beside)
+}
+
+#[no_mangle]
+pub extern "C" fn kuj_read_vcr(control: &[u64; 5], beside: &mut u64) -> u32
+    ensures { λ r. ⌜ answer r (now (beside .exit)) ≡ vcrRead (controlOf (now (control .entry))) ⌝ }
+{
+    answers::of_read(control::read_vcr(record::of(control)), beside)
+}
+
+#[no_mangle]
+pub extern "C" fn kuj_read_vmr_low(control: &[u64; 5], beside: &mut u64) -> u32
+    ensures { λ r. ⌜ answer r (now (beside .exit)) ≡ vmrLowRead (controlOf (now (control .entry))) ⌝ }
+{
+    answers::of_read(control::read_vmr_low(record::of(control)), beside)
+}
+
+#[no_mangle]
+pub extern "C" fn kuj_read_vmr_high(control: &[u64; 5], beside: &mut u64) -> u32
+    ensures { λ r. ⌜ answer r (now (beside .exit)) ≡ vmrHighRead (controlOf (now (control .entry))) ⌝ }
+{
+    answers::of_read(control::read_vmr_high(record::of(control)), beside)
+}
+
+#[no_mangle]
+pub extern "C" fn kuj_read_vaer(control: &[u64; 5], beside: &mut u64) -> u32
+    ensures { λ r. ⌜ answer r (now (beside .exit)) ≡ vaerRead (controlOf (now (control .entry))) ⌝ }
+{
+    answers::of_read(control::read_vaer(record::of(control)), beside)
+}
+
+#[no_mangle]
+pub extern "C" fn kuj_read_vpsr(control: &[u64; 5], beside: &mut u64) -> u32
+    ensures { λ r. ⌜ answer r (now (beside .exit)) ≡ vpsrRead (controlOf (now (control .entry))) ⌝ }
+{
+    answers::of_read(control::read_vpsr(record::of(control)), beside)
+}
+
+// Stores what a write left.
+fn alter(control: &mut [u64; 5], after: Written, beside: &mut u64) -> u32
+    ensures { λ r. ⌜ (answer r (now (beside .exit)), now (control .exit)) ≡ written (now (control .entry)) (outcomeOf after) ⌝ }
+{
+    let given = after.answer;
+    record::store(control, after.control);
+    answers::of_write(given, beside)
+}
+
+#[no_mangle]
+pub extern "C" fn kuj_write_vlr(control: &mut [u64; 5], value: u32, beside: &mut u64) -> u32
+    ensures { λ r. ⌜ (answer r (now (beside .exit)), now (control .exit)) ≡ written (now (control .entry)) (vlrWritten (controlOf (now (control .entry))) value) ⌝ }
+{
+    let after = control::write_vlr(record::of(control), value);
+    alter(control, after, beside)
+}
+
+#[no_mangle]
+pub extern "C" fn kuj_write_vcr(control: &mut [u64; 5], value: u32, beside: &mut u64) -> u32
+    ensures { λ r. ⌜ (answer r (now (beside .exit)), now (control .exit)) ≡ written (now (control .entry)) (vcrWritten (controlOf (now (control .entry))) value) ⌝ }
+{
+    let after = control::write_vcr(record::of(control), value);
+    alter(control, after, beside)
+}
+
+#[no_mangle]
+pub extern "C" fn kuj_write_vmr_low(control: &mut [u64; 5], value: u32, beside: &mut u64) -> u32
+    ensures { λ r. ⌜ (answer r (now (beside .exit)), now (control .exit)) ≡ written (now (control .entry)) (vmrLowWritten (controlOf (now (control .entry))) value) ⌝ }
+{
+    let after = control::write_vmr_low(record::of(control), value);
+    alter(control, after, beside)
+}
+
+#[no_mangle]
+pub extern "C" fn kuj_write_vmr_high(control: &mut [u64; 5], value: u32, beside: &mut u64) -> u32
+    ensures { λ r. ⌜ (answer r (now (beside .exit)), now (control .exit)) ≡ written (now (control .entry)) (vmrHighWritten (controlOf (now (control .entry))) value) ⌝ }
+{
+    let after = control::write_vmr_high(record::of(control), value);
+    alter(control, after, beside)
+}
+
+#[no_mangle]
+pub extern "C" fn kuj_write_vpsr(control: &mut [u64; 5], value: u32, beside: &mut u64) -> u32
+    ensures { λ r. ⌜ (answer r (now (beside .exit)), now (control .exit)) ≡ written (now (control .entry)) (vpsrWritten (controlOf (now (control .entry))) value) ⌝ }
+{
+    let after = control::write_vpsr(record::of(control), value);
+    alter(control, after, beside)
+}
+
+// Saves the state into lent bytes.
+#[no_mangle]
+pub extern "C" fn kuj_save(
+    elements: &[u64; 1024],
+    control: &[u64; 5],
+    file: &mut [u8],
+    beside: &mut u64,
+) -> u32
+    ensures { λ r. ⌜ (answer r (now (beside .exit)), now (file .exit)) ≡ saving (stateOf (now (elements .entry)) (now (control .entry))) (now (file .entry)) ⌝ }
+{
+    answers::of_save(saved::save(elements, record::of(control), file), beside)
+}
+
+// Loads a state from the bytes of a file.
+#[no_mangle]
+pub extern "C" fn kuj_load(
+    elements: &mut [u64; 1024],
+    control: &mut [u64; 5],
+    file: &[u8],
+    beside: &mut u64,
+) -> u32
+    ensures { λ r. ⌜ (answer r (now (beside .exit)), now (elements .exit), now (control .exit)) ≡ left (now (control .entry)) (loading (now (file .entry)) (stateOf (now (elements .entry)) (now (control .entry)))) ⌝ }
+{
+    let after = saved::load(elements, record::of(control), file);
+    let given = after.answer;
+    record::store(control, after.control);
+    answers::of_load(given, beside)
+}
+
+// The reading of an element, as its kind and its bits.
+#[no_mangle]
+pub extern "C" fn kuj_reading(
+    elements: &[u64; 1024],
+    control: &[u64; 5],
+    reg: u8,
+    element: u8,
+    kind: u8,
+    kind_read: &mut u64,
+    bits: &mut u64,
+    beside: &mut u64,
+) -> u32
+    ensures { λ r. ⌜ (answer r (now (beside .exit)), now («kind_read» .exit), now (bits .exit)) ≡ fieldRead (stateOf (now (elements .entry)) (now (control .entry))) reg element kind (now («kind_read» .entry)) (now (bits .entry)) ⌝ }
+{
+    let given = panel::reading(
+        elements,
+        record::of(control),
+        Register(reg),
+        Element(element),
+        kind,
+    );
+    *beside = 0;
+    match given {
+        Panel::Shown(reading) => {
+            *kind_read = shown::kind(reading);
+            *bits = shown::bits(reading);
+            0
+        }
+        Panel::StateOutOfRange => 12,
+        Panel::NoSuchField => 13,
+    }
+}
