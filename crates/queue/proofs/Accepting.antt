@@ -1,0 +1,134 @@
+-- The acceptance of a queue, as the code walks through it. Assumes nothing.
+use mathlib.Core.Path.{_≡_, refl, sym, ap, subst, _∙_}
+use mathlib.Core.Bool.{Bool, true, false, not, _&&_}
+use Prim.Native.Nat.{ℕ, zero, suc, _+_, _<_, _≤_}
+use native.Mathlib.Omega.{arith}
+use native.Mathlib.Numerals.{add-one}
+use native.Mathlib.Decide.{ℕ-discrete}
+use borrow.Author.Tests.{not-true, not-false, leb-true, eqb-true}
+use lib.Dec.{leb, eqb}
+use lib.ListN.{length, getD}
+use Rattle.numbers.specs.Choice.{pick}
+use Rattle.state.specs.declared.Control.{Control}
+use Rattle.state.specs.Answer.{Answer, done, disabled, outOfRange}
+use Rattle.state.specs.State.{inRange, enabled}
+use Rattle.opcodes.specs.declared.Work.{Work}
+use Rattle.opcodes.specs.declared.Instruction.{Instruction}
+use Rattle.opcodes.specs.declared.Opcode.{Opcode}
+use Rattle.opcodes.specs.declared.Opcode.the-variants as opcode
+use Rattle.opcodes.specs.declared.ControlWord.{ControlWord}
+use Rattle.opcodes.specs.declared.ControlWord.the-variants as word
+use Rattle.opcodes.specs.Opcodes.{opcodeOf, isMemory}
+use Rattle.opcodes.specs.ControlWord.{controlWordOf}
+use Rattle.opcodes.specs.Decoding.{LookedUp, ControlWordRead}
+use Rattle.queue.specs.declared.Reply.{Reply}
+use Rattle.queue.specs.declared.Reply.the-variants as reply
+use Rattle.queue.specs.Queue.{Queue, size, wellFormed, ofWord, ofOpcode, atPosition, fine, positions, acceptance, queueRefused}
+use Rattle.queue.specs.Reply.{replyAnswer}
+
+-- one position
+module _ (p k c : ℕ) (o : Opcode) (looked : LookedUp k o) where
+  pub opcode-reserved : o ≡ opcode.Reserved → replyAnswer (reply.ReservedOpcode p) ≡ ofOpcode p (opcodeOf k) c
+  opcode-reserved e = ap (λ (v : Opcode). ofOpcode p v c) (sym e ∙ looked .result)
+
+  module _ (w : Work) (s : Bool) (accepted : o ≡ opcode.Accepted w s) (m : Bool) (memory : m ≡ isMemory w) where
+    said : pick m (replyAnswer (reply.MemoryOpcode p)) (ofWord p (controlWordOf w s c)) ≡ ofOpcode p (opcodeOf k) c
+    said = rw memory (ap (λ (v : Opcode). ofOpcode p v c) (sym accepted ∙ looked .result))
+
+    pub opcode-memory : m ≡ true → replyAnswer (reply.MemoryOpcode p) ≡ ofOpcode p (opcodeOf k) c
+    opcode-memory e = rw e at said
+
+    module _ (other : m ≡ false) (q : ControlWord) (read : ControlWordRead w s c q) where
+      worded : ofWord p q ≡ ofOpcode p (opcodeOf k) c
+      worded = ap (ofWord p) (read .result) ∙ (rw other at said)
+
+      pub word-reserved : q ≡ word.Reserved → replyAnswer (reply.ReservedControlWord p) ≡ ofOpcode p (opcodeOf k) c
+      word-reserved e = rw e at worded
+
+      pub word-accepted : (i : Instruction) → q ≡ word.Accepted i → replyAnswer reply.Done ≡ ofOpcode p (opcodeOf k) c
+      word-accepted i e = rw e at worded
+
+-- ---- the positions, from 0 on
+module _ (q : Queue) where
+  -- nothing is looked at past a refusal
+  kept : (m n : ℕ) → fine (positions q n) ≡ false → positions q m ≡ positions q n → positions q (suc m) ≡ positions q n
+  unfolding positions
+  kept m n e same = ap (λ (t : Bool). pick t (atPosition q m) (positions q m)) (ap fine same ∙ e) ∙ same
+
+  stays : (m n : ℕ) → n ≤ m → fine (positions q n) ≡ false → positions q m ≡ positions q n
+  stays zero n h e = ap (positions q) (zero-is h)
+    where
+      zero-is : n ≤ 0 → 0 ≡ n
+      zero-is g = omega arith
+  stays (suc m) n h e = go (ℕ-discrete n (suc m)) (λ g. kept m n e (stays m n g e))
+    where
+      go : Dec (n ≡ suc m) → (n ≤ m → positions q (suc m) ≡ positions q n) → positions q (suc m) ≡ positions q n
+      go (yes s) f = ap (positions q) (sym s)
+      go (no s) f = f (omega arith)
+
+  next : (k : ℕ) → positions q k ≡ done 0 → positions q (suc k) ≡ atPosition q k
+  unfolding positions
+  next k e = ap (λ (a : Answer). pick (fine a) (atPosition q k) a) e
+
+  pub position-stops : (k : ℕ) (r : Reply) → positions q k ≡ done 0 → k < size q → replyAnswer r ≡ ofOpcode k (opcodeOf (getD (q .opcodes) k 0)) (getD (q .controlWords) k 0) → fine (replyAnswer r) ≡ false → replyAnswer r ≡ positions q (size q)
+  unfolding atPosition
+  position-stops k r e h a f =
+      let here = next k e ∙ sym a in
+      sym (stays (size q) (suc k) h (ap fine here ∙ f) ∙ here)
+
+  fine-done : (r : Reply) → fine (replyAnswer r) ≡ true → replyAnswer r ≡ done 0
+  fine-done reply.Done f = refl
+  fine-done reply.StateOutOfRange f = absurd (let z : _≡_ {A = ℕ} 0 1 = cc in omega arith)
+  fine-done reply.QueueRefused f = absurd (let z : _≡_ {A = ℕ} 0 1 = cc in omega arith)
+  fine-done reply.Disabled f = absurd (let z : _≡_ {A = ℕ} 0 1 = cc in omega arith)
+  fine-done (reply.ReservedOpcode p) f = absurd (let z : _≡_ {A = ℕ} 0 1 = cc in omega arith)
+  fine-done (reply.MemoryOpcode p) f = absurd (let z : _≡_ {A = ℕ} 0 1 = cc in omega arith)
+  fine-done (reply.ReservedControlWord p) f = absurd (let z : _≡_ {A = ℕ} 0 1 = cc in omega arith)
+  fine-done (reply.OrderRefused p) f = absurd (let z : _≡_ {A = ℕ} 0 1 = cc in omega arith)
+
+  pub position-passes : (k : ℕ) (r : Reply) → positions q k ≡ done 0 → replyAnswer r ≡ ofOpcode k (opcodeOf (getD (q .opcodes) k 0)) (getD (q .controlWords) k 0) → fine (replyAnswer r) ≡ true → positions q (k + 1) ≡ done 0
+  unfolding atPosition
+  position-passes k r e a f = ap (positions q) (add-one k) ∙ next k e ∙ sym a ∙ fine-done r f
+
+  pub position-last : (k : ℕ) → positions q k ≡ done 0 → k ≤ size q → size q ≤ k → done 0 ≡ positions q (size q)
+  position-last k e h g = sym (ap (positions q) same ∙ e)
+    where
+      same : size q ≡ k
+      same = omega arith
+
+  -- ---- the tests before them
+  module _ (c : Control) where
+    pub refused-12 : inRange c ≡ false → outOfRange ≡ acceptance c q
+    unfolding acceptance
+    refused-12 e = rw e
+
+    module _ (in-range : inRange c ≡ true) where
+      pub refused-8 : wellFormed q ≡ false → queueRefused ≡ acceptance c q
+      unfolding acceptance
+      refused-8 e = rw (in-range, e)
+
+      module _ (well-formed : wellFormed q ≡ true) where
+        pub refused-3 : enabled c ≡ false → disabled ≡ acceptance c q
+        unfolding acceptance
+        refused-3 e = rw (in-range, well-formed, e)
+
+        pub by-position : enabled c ≡ true → positions q (size q) ≡ acceptance c q
+        unfolding acceptance
+        by-position e = rw (in-range, well-formed, e)
+
+-- what a well formed queue is
+pub record Lengths (q : Queue) : Type 0 where
+  pub few : size q ≤ 16
+  pub words : length (q .controlWords) ≡ size q
+  pub scalars : length (q .scalars) ≡ size q
+
+pub both : (a b : Bool) → a && b ≡ true → (a ≡ true) × (b ≡ true)
+both true b e = (refl, e)
+both false b e = absurd (let z : _≡_ {A = ℕ} 0 1 = cc in omega arith)
+
+pub lengths : (q : Queue) → wellFormed q ≡ true → Lengths q
+lengths q e =
+    let n = size q in
+    let u = both (leb n 16 && eqb (length (q .controlWords)) n) (eqb (length (q .scalars)) n) e in
+    let v = both (leb n 16) (eqb (length (q .controlWords)) n) (u .0) in
+    record { few = leb-true n 16 (v .0); words = eqb-true _ _ (v .1); scalars = eqb-true _ _ (u .1) }

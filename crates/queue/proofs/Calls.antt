@@ -1,0 +1,127 @@
+-- The two calls on a queue, from what their parts give. Assumes nothing.
+use mathlib.Core.Path.{_≡_, refl, sym, ap, subst, _∙_}
+use mathlib.Core.Bool.{Bool, true, false, _&&_}
+use mathlib.Core.Logic.{inl, inr}
+use mathlib.Core.List.{List, [], _∷_}
+use Prim.Native.Nat.{ℕ, zero, suc, _≤_, _<_}
+use native.Mathlib.Omega.{arith}
+use borrow.Author.Tests.{leb-true}
+use lib.Dec.{leb}
+use lib.ListN.{length, getD}
+use Rattle.numbers.specs.Choice.{pick}
+use Rattle.state.specs.declared.Control.{Control}
+use Rattle.state.specs.Answer.{Answer, done, disabled, outOfRange}
+use Rattle.state.specs.State.{State, state, inRange, enabled, lengthInRange, vaerInRange, vpsrInRange}
+use Rattle.machine.specs.declared.Progress.{Progress}
+use Rattle.machine.specs.Run.{run, progress, ended, finished}
+use Rattle.queue.specs.declared.Reply.{Reply}
+use Rattle.queue.specs.Queue.{Queue, size, wellFormed, fine, positions, acceptance, queueRefused, straight, instructionAt}
+use Rattle.queue.specs.Reply.{replyAnswer}
+use Rattle.queue.specs.Run.{Outcome, outcome, orderRefused, ranThrough, queueRun, verdictOf, byVerdict, orderedRun}
+use Rattle.queue.specs.Order.{Mem, Proper, run as walkOf}
+use Rattle.queue.specs.Touch.{position, stepsOf, mustFollow, act}
+use Rattle.queue.specs.Tables.{Below, decodedAt, actBy}
+use Rattle.queue.specs.declared.Verdict.{Verdict}
+use Rattle.queue.specs.declared.Verdict.the-variants as verdict
+use Rattle.opcodes.specs.declared.Instruction.{Instruction}
+use Rattle.queue.proofs.Ignores.{Ignores}
+use Rattle.queue.proofs.Claim.{permitted-proper, permitted-straight}
+use Rattle.queue.proofs.Steps.{step-of, step-position}
+use Rattle.queue.proofs.RunLoop.{run-same, same-acts}
+use Rattle.queue.proofs.Accepting.{Lengths, lengths, both}
+
+-- an entry stands somewhere in its list
+mem→at : (list : List ℕ) (x : ℕ) → Mem x list → (i : ℕ) × (i < length list) × (getD list i 0 ≡ x)
+mem→at [] x m = absurd m
+mem→at (y ∷ list) x (inl e) = (0, omega arith, sym e)
+mem→at (y ∷ list) x (inr m) = let w = mem→at list x m in (suc (w .0), omega arith, w .2)
+
+-- ---- an accepted queue
+passed : (b : Bool) (a r : Answer) → fine r ≡ false → fine (pick b a r) ≡ true → (b ≡ true) × (fine a ≡ true)
+passed true a r e f = (refl, f)
+passed false a r e f = absurd (let z : _≡_ {A = ℕ} 0 1 = cc in omega arith)
+
+pub record Accepted (c : Control) (q : Queue) : Type 0 where
+  pub short : c .vlr ≤ 64
+  pub lengths : Lengths q
+
+pub accepted : (c : Control) (q : Queue) → fine (acceptance c q) ≡ true → Accepted c q
+unfolding acceptance inRange
+accepted c q e =
+    let u = passed (inRange c) _ outOfRange refl e in
+    let v = passed (wellFormed q) _ queueRefused refl (u .1) in
+    let w = both (lengthInRange (c .vlr) && lengthInRange (c .vcr) && vaerInRange (c .vaer)) (vpsrInRange (c .vpsr)) (u .0) in
+    let x = both (lengthInRange (c .vlr) && lengthInRange (c .vcr)) (vaerInRange (c .vaer)) (w .0) in
+    let y = both (lengthInRange (c .vlr)) (lengthInRange (c .vcr)) (x .0) in
+    record { short = leb-true (c .vlr) 64 (y .0); lengths = lengths q (v .0) }
+
+-- what the run straight through asks
+pub through-meets : (c : Control) (q : Queue) (p : Progress) → Accepted c q → p ≡ progress c false → (p .control .vlr ≤ 64) × (length (q .controlWords) ≡ length (q .opcodes)) × (length (q .scalars) ≡ length (q .opcodes))
+through-meets c q p a e = (rw (ap (λ (b : Progress). b .control .vlr) e) (a .short), a .lengths .words, a .lengths .scalars)
+
+module _ (q : Queue) (l : List ℕ) (c : Control) (r : Reply) (asked : replyAnswer r ≡ acceptance c q) where
+  pub reply-accepted : fine (replyAnswer r) ≡ true → Accepted c q
+  reply-accepted f = accepted c q (sym (ap fine asked) ∙ f)
+
+  -- ---- straight through
+  pub run-refused : fine (replyAnswer r) ≡ false → outcome (replyAnswer r) (state l c) ≡ queueRun q (state l c)
+  unfolding queueRun
+  run-refused f =
+      ap (λ (a : Answer). outcome a (state l c)) asked
+      ∙ sym (ap (λ (t : Bool). pick t (outcome (done 0) (ranThrough q (state l c))) (outcome (acceptance c q) (state l c))) (sym (ap fine asked) ∙ f))
+
+  module _ (l′ : List ℕ) (p p′ : Progress) (c′ : Control) (starts : p ≡ progress c false) (ends : c′ ≡ ended p′) where
+    through : run l′ p′ ≡ straight q (size q) (run l p) → state l′ c′ ≡ ranThrough q (state l c)
+    unfolding ranThrough
+    through e =
+        ap (state l′) ends
+        ∙ ap finished (e ∙ ap (λ (b : Progress). straight q (size q) (run l b)) starts)
+
+    pub run-done : fine (replyAnswer r) ≡ true → run l′ p′ ≡ straight q (size q) (run l p) → outcome (done 0) (state l′ c′) ≡ queueRun q (state l c)
+    unfolding queueRun
+    run-done f e =
+        ap (outcome (done 0)) (through e)
+        ∙ sym (ap (λ (t : Bool). pick t (outcome (done 0) (ranThrough q (state l c))) (outcome (acceptance c q) (state l c))) (sym (ap fine asked) ∙ f))
+
+  -- ---- by a list
+  pub order-refused : fine (replyAnswer r) ≡ false → (list : List ℕ) → outcome (replyAnswer r) (state l c) ≡ orderedRun q list (state l c)
+  unfolding orderedRun
+  order-refused f list =
+      ap (λ (a : Answer). outcome a (state l c)) asked
+      ∙ sym (ap (λ (t : Bool). pick t (byVerdict q (state l c) (verdictOf q (c .vlr) list)) (outcome (acceptance c q) (state l c))) (sym (ap fine asked) ∙ f))
+
+  module _ (f : fine (replyAnswer r) ≡ true) (list : List ℕ) where
+    ordered : byVerdict q (state l c) (verdictOf q (c .vlr) list) ≡ orderedRun q list (state l c)
+    unfolding orderedRun
+    ordered = sym (ap (λ (t : Bool). pick t (byVerdict q (state l c) (verdictOf q (c .vlr) list)) (outcome (acceptance c q) (state l c))) (sym (ap fine asked) ∙ f))
+
+    pub order-stopped : (v : Verdict) (place : ℕ) → v ≡ verdictOf q (c .vlr) list → v ≡ verdict.Refused place → outcome (orderRefused place) (state l c) ≡ orderedRun q list (state l c)
+    order-stopped v place e g = ap (byVerdict q (state l c)) (sym g ∙ e) ∙ ordered
+
+    module _ (program : List Instruction) (same : (k : ℕ) → k < size q → decodedAt program k ≡ instructionAt q k) (v : Verdict) (e : v ≡ verdictOf q (c .vlr) list) (permitted : v ≡ verdict.Permitted) where
+      allowed : verdictOf q (c .vlr) list ≡ verdict.Permitted
+      allowed = sym e ∙ permitted
+
+      proper : Proper (mustFollow q (c .vlr)) (stepsOf q (c .vlr)) list
+      proper = permitted-proper q (c .vlr) list .0 allowed
+
+      pub entry-position : (i : ℕ) → i < length list → position (getD list i 0) < size q
+      entry-position i h = step-position q (c .vlr) (getD list i 0) (step-of q (c .vlr) (getD list i 0) (proper .only i h))
+
+      entry-of : (x : ℕ) → Mem x list → position x < size q
+      entry-of x m = let w = mem→at list x m in subst (λ (y : ℕ). position y < size q) (w .2) (entry-position (w .0) (w .1))
+
+      pub order-done : Ignores → (l′ : List ℕ) (p p′ : Progress) (c′ : Control) → p ≡ progress c false → c′ ≡ ended p′
+          → run l′ p′ ≡ walkOf (actBy program (q .scalars)) list (run l p)
+          → outcome (done 0) (state l′ c′) ≡ orderedRun q list (state l c)
+      unfolding ranThrough
+      order-done ig l′ p p′ c′ starts ends w =
+          ap (outcome (done 0))
+          (ap (state l′) ends
+          ∙ ap finished
+          (w
+          ∙ ap (λ (b : Progress). walkOf (actBy program (q .scalars)) list (run l b)) starts
+          ∙ run-same (actBy program (q .scalars)) (act q) list (λ x m s. same-acts q program same x (entry-of x m) s) (run l (progress c false))
+          ∙ permitted-straight ig q (run l (progress c false)) (reply-accepted f .short) list allowed))
+          ∙ sym (ap (byVerdict q (state l c)) allowed)
+          ∙ ordered

@@ -1,0 +1,27 @@
+-- Laws of queues and orders, and of the code.
+pub mod Tests
+pub mod Law
+pub mod Meaning
+pub mod SameCheck
+pub mod Places
+pub mod Binding
+pub mod Steps
+pub mod Straight
+pub mod Contents
+pub mod Commute
+pub mod Ignores
+pub mod Ignoring
+pub mod ElementDoes
+pub mod IotaDoes
+pub mod Claim
+pub mod Accepting
+pub mod Through
+pub mod Calls
+pub mod Sets
+pub mod Tally
+pub mod Filling
+pub mod Touching
+pub mod CheckLoop
+pub mod Marking
+pub mod RunLoop
+pub mod Verdicts

@@ -1,0 +1,59 @@
+-- A loop that runs a list of steps one entry after the other: what is left of the list, run from here, gives what the whole list gives.
+-- Assumes nothing.
+use mathlib.Core.Path.{_≡_, refl, sym, ap, _∙_, subst}
+use mathlib.Core.Logic.{inl, inr}
+use mathlib.Core.List.{List, [], _∷_}
+use Prim.Native.Nat.{ℕ, zero, suc, _+_, _<_, _≤_, zero-le}
+use native.Mathlib.Omega.{arith}
+use native.Mathlib.Numerals.{add-one}
+use lib.ListN.{length, getD, drop, drop-of-length-le}
+use lib.Seq.{drop-cons}
+use Rattle.opcodes.specs.declared.Instruction.{Instruction}
+use Rattle.machine.specs.Run.{Run}
+use Rattle.machine.specs.Instruction.{stepOf}
+use Rattle.queue.specs.Queue.{Queue, size, instructionAt, scalarAt}
+use Rattle.queue.specs.Order.{Mem, run}
+use Rattle.queue.specs.Touch.{position, element, act}
+use Rattle.queue.specs.Tables.{decodedAt, actBy}
+use Rattle.queue.proofs.Through.{vlrOf, step-vlr}
+
+module _ {S : Type 0} (does : ℕ → S → S) (list : List ℕ) (s₀ : S) where
+  pub record RunInv (s : S) (i : ℕ) : Type 0 where
+    pub inside : i ≤ length list
+    pub same : run does list s₀ ≡ run does (drop i list) s
+
+  pub run-start : RunInv s₀ 0
+  run-start = record { inside = zero-le; same = refl }
+
+  pub run-on : (s : S) (i : ℕ) → RunInv s i → i < length list → (s′ : S) → s′ ≡ does (getD list i 0) s → RunInv s′ (i + 1)
+  unfolding run
+  run-on s i inv h s′ e = subst (RunInv s′) (sym (add-one i)) (record {
+    inside = h;
+    same = inv .same ∙ ap (λ (l : List ℕ). run does l s) (drop-cons list i 0 h) ∙ ap (run does (drop (suc i) list)) (sym e);
+  })
+
+  pub run-end : (s : S) (i : ℕ) → RunInv s i → length list ≤ i → s ≡ run does list s₀
+  unfolding run
+  run-end s i inv h = sym (inv .same ∙ ap (λ (l : List ℕ). run does l s) (drop-of-length-le list h))
+
+-- steps that do the same at each entry run to the same
+pub run-same : {S : Type 0} (f g : ℕ → S → S) (l : List ℕ) → ((x : ℕ) → Mem x l → (s : S) → f x s ≡ g x s) → (s : S) → run f l s ≡ run g l s
+unfolding run
+run-same f g [] e s = refl
+run-same f g (x ∷ l) e s = ap (run f l) (e x (inl refl) s) ∙ run-same f g l (λ y m. e y (inr m)) (g x s)
+
+-- ---- the entry of a decoded queue
+module _ (program : List Instruction) (scalars : List ℕ) (x : ℕ) (r r′ : Run)
+    (done : r′ ≡ stepOf (decodedAt program (position x)) (getD scalars (position x) 0) (element x) r) where
+  pub acts : r′ ≡ actBy program scalars x r
+  unfolding actBy
+  acts = done
+
+  pub act-short : vlrOf r ≤ 64 → vlrOf r′ ≤ 64
+  act-short h = rw (ap vlrOf done ∙ step-vlr (decodedAt program (position x)) (getD scalars (position x) 0) (element x) r) h
+
+-- a decoded queue's steps are the queue's
+pub same-acts : (q : Queue) (program : List Instruction) → ((k : ℕ) → k < size q → decodedAt program k ≡ instructionAt q k)
+    → (x : ℕ) → position x < size q → (r : Run) → actBy program (q .scalars) x r ≡ act q x r
+unfolding actBy act
+same-acts q program same x h r = ap (λ (i : Instruction). stepOf i (scalarAt q (position x)) (element x) r) (same (position x) h)

@@ -1,0 +1,168 @@
+-- Sets of positions: a number whose bit k says that k is in it. Assumes nothing.
+use mathlib.Core.Path.{_≡_, refl, sym, ap, ap₂, subst, _∙_}
+use mathlib.Core.Bool.{Bool, true, false, not, _&&_, _||_}
+use Prim.Native.Nat.{ℕ, zero, suc, _+_, _-_, _*_, _/_, _%_, _^_, _<_, _≤_}
+use native.Mathlib.Nat.{mod-lt, mul-mod-left, pow-suc, zero-lt-suc, div-eq-of-lt, zero-div}
+use native.Mathlib.Omega.{arith}
+use native.Mathlib.Numerals.{add-one}
+use native.Mathlib.Decide.{decLt, ℕ-discrete}
+use borrow.Author.Tests.{eq-eqb, ne-eqb, eqb-true, lt-ltb, le-ltb}
+use lib.Dec.{eqb, ltb}
+use lib.Bits.{bitOr, or-shr, or-mod}
+use lib.Pow.{shl-shr, pow-add, pow-lt, pow-pos}
+use Rattle.numbers.specs.Choice.{pick}
+use Rattle.numbers.specs.Bits.{bit, complement}
+use Rattle.numbers.proofs.BitLaws.{digit, digit-lt, same-digits, digit-complement, bit-counts}
+use Rattle.queue.specs.Tables.{joined, joinedIf, within}
+
+by-digit : (P : ℕ → Type 0) → P 0 → P 1 → (d : ℕ) → d < 2 → P d
+by-digit P p0 p1 zero h = p0
+by-digit P p0 p1 (suc zero) h = p1
+by-digit P p0 p1 (suc (suc d)) h = absurd (big h)
+  where
+    big : suc (suc d) < 2 → ⊥
+    big g = omega arith
+
+either : (d e : ℕ) → d < 2 → e < 2 → eqb (bitOr d e) 1 ≡ (eqb d 1 || eqb e 1)
+either d e h g =
+    by-digit (λ (x : ℕ). eqb (bitOr x e) 1 ≡ (eqb x 1 || eqb e 1))
+    (by-digit (λ (y : ℕ). eqb (bitOr 0 y) 1 ≡ (eqb 0 1 || eqb y 1)) refl refl e g)
+    (by-digit (λ (y : ℕ). eqb (bitOr 1 y) 1 ≡ (eqb 1 1 || eqb y 1)) refl refl e g)
+    d h
+
+-- a bit of a union, of nothing, of one position
+pub bit-or : (a b k : ℕ) → bit (bitOr a b) k ≡ (bit a k || bit b k)
+bit-or a b k =
+    ap (λ (d : ℕ). eqb d 1) (ap (λ (n : ℕ). n % 2) (or-shr a b k) ∙ or-mod (a / 2 ^ k) (b / 2 ^ k) 1)
+    ∙ either (digit a k) (digit b k) (digit-lt a k) (digit-lt b k)
+
+pub bit-none : (k : ℕ) → bit 0 k ≡ false
+bit-none k = ap (λ (n : ℕ). eqb (n % 2) 1) (zero-div (2 ^ k))
+
+pow-same : (e : ℕ) → 2 ^ e / 2 ^ e % 2 ≡ 1
+pow-same e = ap (λ (n : ℕ). n / 2 ^ e % 2) (sym (one-mul (2 ^ e))) ∙ ap (λ (n : ℕ). n % 2) (shl-shr 1 e)
+  where
+    one-mul : (n : ℕ) → 1 * n ≡ n
+    one-mul n = omega arith
+
+pow-low : (e k : ℕ) → k < e → 2 ^ e / 2 ^ k % 2 ≡ 0
+pow-low e k h =
+    ap (λ (n : ℕ). 2 ^ n / 2 ^ k % 2) e-is
+    ∙ ap (λ (n : ℕ). n / 2 ^ k % 2) (pow-add 2 (suc (e - suc k)) k)
+    ∙ ap (λ (n : ℕ). n % 2) (shl-shr (2 ^ suc (e - suc k)) k)
+    ∙ ap (λ (n : ℕ). n % 2) (pow-suc 2 (e - suc k))
+    ∙ mul-mod-left (2 ^ (e - suc k)) 2
+  where
+    e-is : e ≡ suc (e - suc k) + k
+    e-is = omega arith
+
+pub bit-above : (x n k : ℕ) → x < 2 ^ n → n ≤ k → bit x k ≡ false
+bit-above x n k small h = ap (λ (d : ℕ). eqb (d % 2) 1) (div-eq-of-lt (less (ℕ-discrete n k)))
+  where
+    less : Dec (n ≡ k) → x < 2 ^ k
+    less (yes e) = subst (λ (m : ℕ). x < 2 ^ m) e small
+    less (no e) = let g : 2 ^ n < 2 ^ k = pow-lt (omega arith) in omega arith
+
+pub bit-one : (e k : ℕ) → bit (2 ^ e) k ≡ eqb k e
+bit-one e k = go (decLt k e) (decLt e k)
+  where
+    go : Dec (k < e) → Dec (e < k) → bit (2 ^ e) k ≡ eqb k e
+    go (yes h) d = ap (λ (n : ℕ). eqb n 1) (pow-low e k h) ∙ sym (ne-eqb k e (λ s. omega arith))
+    go (no _) (yes h) = ap (λ (n : ℕ). eqb (n % 2) 1) (div-eq-of-lt (pow-lt h)) ∙ sym (ne-eqb k e (λ s. omega arith))
+    go (no a) (no b) =
+        let s : k ≡ e = omega arith in
+        ap (λ (n : ℕ). eqb (2 ^ e / 2 ^ n % 2) 1) s ∙ ap (λ (n : ℕ). eqb n 1) (pow-same e) ∙ sym (eq-eqb k e s)
+
+or-swap : (a b : Bool) → (a || b) ≡ (b || a)
+or-swap true true = refl
+or-swap true false = refl
+or-swap false true = refl
+or-swap false false = refl
+
+pub bit-joined : (s k j : ℕ) → bit (joined s k) j ≡ (eqb j k || bit s j)
+bit-joined s k j = bit-or s (2 ^ k) j ∙ or-swap (bit s j) (bit (2 ^ k) j) ∙ ap (λ (t : Bool). t || bit s j) (bit-one k j)
+
+pub bit-joined-if : (t : Bool) (s k j : ℕ) → bit (joinedIf t s k) j ≡ (t && eqb j k || bit s j)
+bit-joined-if true s k j = bit-joined s k j
+bit-joined-if false s k j = refl
+
+-- the positions below n
+pub bit-below : (n k : ℕ) → bit (2 ^ n - 1) k ≡ ltb k n
+bit-below n k = go (decLt k n)
+  where
+    small : 0 < 2 ^ n
+    small = pow-pos n
+
+    none-less : (m : ℕ) → m ≡ m - 0
+    none-less m = omega arith
+
+    go : Dec (k < n) → bit (2 ^ n - 1) k ≡ ltb k n
+    go (yes h) =
+        ap (λ (m : ℕ). bit m k) (none-less (2 ^ n - 1))
+        ∙ ap (λ (d : ℕ). eqb d 1) (digit-complement n 0 k small h ∙ ap (λ (d : ℕ). 1 - d % 2) (zero-div (2 ^ k)))
+        ∙ sym (lt-ltb k n h)
+    go (no h) = bit-above (2 ^ n - 1) n k (let s = small in omega arith) (omega arith) ∙ sym (le-ltb k n (omega arith))
+
+-- the positions that are not in a set
+pub bit-complement : (w x k : ℕ) → x < 2 ^ w → k < w → bit (complement w x) k ≡ not (bit x k)
+bit-complement w x k small h = ap (λ (d : ℕ). eqb d 1) (digit-complement w x k small h) ∙ by-digit (λ (d : ℕ). eqb (1 - d) 1 ≡ not (eqb d 1)) refl refl (digit x k) (digit-lt x k)
+
+-- ---- one set within another
+pub within→ : (a b : ℕ) → within a b ≡ true → (k : ℕ) → bit a k ≡ true → bit b k ≡ true
+within→ a b e k h =
+    ap (λ (n : ℕ). bit n k) (sym (eqb-true (bitOr a b) b e)) ∙ bit-or a b k ∙ ap (λ (t : Bool). t || bit b k) h
+
+absorbs : (s t : Bool) → (s ≡ true → t ≡ true) → (s || t) ≡ t
+absorbs true t f = sym (f refl)
+absorbs false t f = refl
+
+pub →within : (a b : ℕ) → ((k : ℕ) → bit a k ≡ true → bit b k ≡ true) → within a b ≡ true
+→within a b f =
+    eq-eqb (bitOr a b) b
+    (same-digits (bitOr a b) b (λ k. sym (bit-counts (bitOr a b) k) ∙ ap (λ (t : Bool). pick t 1 0) (bit-or a b k ∙ absorbs (bit a k) (bit b k) (f k)) ∙ bit-counts b k))
+
+-- ---- a set that a loop builds: after k turns it has the positions below k that pass the test
+pub Built : (ℕ → Bool) → ℕ → ℕ → Type 0
+Built f s k = (j : ℕ) → bit s j ≡ (ltb j k && f j)
+
+pub built-none : (f : ℕ → Bool) → Built f 0 0
+unfolding Built
+built-none f j = bit-none j ∙ ap (λ (t : Bool). t && f j) (sym (le-ltb j 0 (omega arith)))
+
+pub built-all : (f : ℕ → Bool) (s k n : ℕ) → Built f s k → k ≤ n → n ≤ k → (j : ℕ) → bit s j ≡ (ltb j n && f j)
+unfolding Built
+built-all f s k n b h g j = b j ∙ ap (λ (m : ℕ). ltb j m && f j) same
+  where
+    same : k ≡ n
+    same = omega arith
+
+pub built-more : (f : ℕ → Bool) (s k : ℕ) (t : Bool) → Built f s k → t ≡ f k → Built f (joinedIf t s k) (k + 1)
+unfolding Built
+built-more f s k t b e j = bit-joined-if t s k j ∙ ap (λ (u : Bool). t && eqb j k || u) (b j) ∙ go (decLt j k) (decLt k j)
+  where
+    aside : (u v : Bool) → (u && false || v) ≡ v
+    aside true v = refl
+    aside false v = refl
+
+    here : (u : Bool) → (u && true || false) ≡ u
+    here true = refl
+    here false = refl
+
+    go : Dec (j < k) → Dec (k < j) → (t && eqb j k || (ltb j k && f j)) ≡ (ltb j (k + 1) && f j)
+    go (yes h) d =
+        ap₂ (λ (x y : Bool). t && x || (y && f j)) (ne-eqb j k (λ s. omega arith)) (lt-ltb j k h)
+        ∙ aside t (f j)
+        ∙ ap (λ (y : Bool). y && f j) (sym (lt-ltb j (k + 1) (omega arith)))
+    go (no _) (yes h) =
+        ap₂ (λ (x y : Bool). t && x || (y && f j)) (ne-eqb j k (λ s. omega arith)) (le-ltb j k (omega arith))
+        ∙ aside t false
+        ∙ ap (λ (y : Bool). y && f j) (sym (le-ltb j (k + 1) (omega arith)))
+    go (no a) (no c) =
+        let s : j ≡ k = omega arith in
+        ap₂ (λ (x y : Bool). t && x || (y && f j)) (eq-eqb j k s) (le-ltb j k (omega arith))
+        ∙ here t
+        ∙ e ∙ ap f (sym s)
+        ∙ ap (λ (y : Bool). y && f j) (sym (lt-ltb j (k + 1) (omega arith)))
+
+pub built-turn : (f : ℕ → Bool) (s k r : ℕ) (t : Bool) → Built f s k → t ≡ f k → r ≡ joinedIf t s k → Built f r (k + 1)
+built-turn f s k r t b e g = subst (λ (m : ℕ). Built f m (k + 1)) (sym g) (built-more f s k t b e)

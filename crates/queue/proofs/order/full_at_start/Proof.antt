@@ -1,0 +1,14 @@
+-- `full_at_start` meets its contract. Assumes nothing.
+use borrow.Author.Tests.{eq-eqb, ne-eqb}
+use borrow.Author.Needs.{needs}
+use Rattle.queue.proofs.order.full_at_start.Statement.{statement}
+use Rattle.queue.proofs.order.full_at_start.Tie as tie
+
+returns : tie.Need-returns
+returns c = simp (eq-eqb _ _ (c .if1 .taken))
+
+returns-2 : tie.Need-returns-2
+returns-2 c = simp (ne-eqb _ _ (c .if1 .left))
+
+pub full-at-start-spec : {M : Type 1} → statement M
+full-at-start-spec = tie.close (tie.spec returns returns-2)

@@ -1,0 +1,46 @@
+-- The two calls on a queue: straight through, and by a list of steps. "Demand 3": every permitted list ends in the same whole state as the queue run
+-- straight through; any other is refused with 9 and the position, and nothing has changed.
+use mathlib.Core.List.{List}
+use Prim.Native.Nat.{ℕ}
+use Rattle.numbers.specs.Choice.{pick}
+use Rattle.state.specs.declared.Control.{Control}
+use Rattle.state.specs.Answer.{Answer, answer, done}
+use Rattle.state.specs.State.{State}
+use Rattle.machine.specs.Run.{begun, finished}
+use Rattle.queue.specs.declared.Verdict.{Verdict}
+use Rattle.queue.specs.declared.Verdict.the-variants.{Permitted, Refused}
+use Rattle.queue.specs.Queue.{Queue, size, fine, acceptance, straight}
+use Rattle.queue.specs.Touch.{stepsOf, mustFollow}
+use Rattle.queue.specs.Order.{check}
+
+-- what a call gives back, and the state after it
+pub record Outcome : Type 0 where
+  pub answer : Answer
+  pub state : State
+
+abbrev pub outcome : Answer → State → Outcome
+outcome a s = record { answer = a; state = s }
+
+-- the order is not permitted
+abbrev pub orderRefused : ℕ → Answer
+orderRefused place = answer 9 place
+
+-- the state after an accepted queue, run straight through; VEN and AEX change only at its end
+unfoldable pub ranThrough : Queue → State → State
+ranThrough q s = finished (straight q (size q) (begun s))
+
+unfoldable pub queueRun : Queue → State → Outcome
+queueRun q s = pick (fine (acceptance (s .control) q)) (outcome (done 0) (ranThrough q s)) (outcome (acceptance (s .control) q) s)
+
+-- the list is permitted, or is refused at a position
+unfoldable pub verdictOf : Queue → ℕ → List ℕ → Verdict
+verdictOf q vlr list = check (mustFollow q vlr) (stepsOf q vlr) list
+
+-- by a list of an accepted queue
+abbrev pub byVerdict : Queue → State → Verdict → Outcome
+byVerdict q s Permitted = outcome (done 0) (ranThrough q s)
+byVerdict q s (Refused place) = outcome (orderRefused place) s
+
+unfoldable pub orderedRun : Queue → List ℕ → State → Outcome
+orderedRun q list s =
+    pick (fine (acceptance (s .control) q)) (byVerdict q s (verdictOf q (s .control .vlr) list)) (outcome (acceptance (s .control) q) s)

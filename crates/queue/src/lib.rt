@@ -1,0 +1,106 @@
+// Queues of register instructions.
+use machine::run;
+use state::Control;
+ghost use mathlib.Core.Path.{_≡_};
+ghost use Rattle.state.specs.State.{state};
+ghost use Rattle.queue.specs.Queue.{fine};
+ghost use Rattle.queue.specs.Reply.{queue, replyAnswer};
+ghost use Rattle.queue.specs.Run.{outcome, queueRun, orderedRun};
+
+mod acceptance;
+mod order;
+mod program;
+mod runs;
+
+// What the check of an order list says.
+pub enum Verdict {
+    Permitted,
+    Refused(u64),
+}
+
+// What a call on a queue gives back: done, or why it is refused and where.
+pub enum Reply {
+    Done,
+    StateOutOfRange,
+    QueueRefused,
+    Disabled,
+    ReservedOpcode(u64),
+    MemoryOpcode(u64),
+    ReservedControlWord(u64),
+    OrderRefused(u64),
+}
+
+// A call's reply, and the control record after it.
+pub struct Ran {
+    pub reply: Reply,
+    pub control: Control,
+}
+
+// Nothing is refused.
+fn is_done(reply: Reply) -> bool
+    ensures { λ r. ⌜ r ≡ fine (replyAnswer reply) ⌝ }
+{
+    match reply {
+        Reply::Done => true,
+        Reply::StateOutOfRange => false,
+        Reply::QueueRefused => false,
+        Reply::Disabled => false,
+        Reply::ReservedOpcode(_) => false,
+        Reply::MemoryOpcode(_) => false,
+        Reply::ReservedControlWord(_) => false,
+        Reply::OrderRefused(_) => false,
+    }
+}
+
+// A queue, straight through: each instruction is done whole on what the last one left.
+pub fn run(
+    elements: &mut [u64; 1024],
+    control: Control,
+    opcodes: &[u8],
+    cntrls: &[u16],
+    scalars: &[u64],
+) -> Ran
+    ensures { λ r. ⌜ outcome (replyAnswer (r .reply)) (state (now (elements .exit)) (r .control)) ≡ queueRun (queue (now (opcodes .entry)) (now (cntrls .entry)) (now (scalars .entry))) (state (now (elements .entry)) control) ⌝ }
+{
+    let reply = acceptance::accept(control, opcodes, cntrls, scalars);
+    if !is_done(reply) {
+        return Ran { reply, control };
+    }
+    let progress = runs::straight(elements, run::begin(control), opcodes, cntrls, scalars);
+    Ran {
+        reply: Reply::Done,
+        control: run::end(progress),
+    }
+}
+
+// A queue by a list of its steps: a permitted list ends in the state of the straight run, any other is
+// refused with 9 and its first bad position.
+pub fn run_order(
+    elements: &mut [u64; 1024],
+    control: Control,
+    opcodes: &[u8],
+    cntrls: &[u16],
+    scalars: &[u64],
+    list: &[u64],
+) -> Ran
+    ensures { λ r. ⌜ outcome (replyAnswer (r .reply)) (state (now (elements .exit)) (r .control)) ≡ orderedRun (queue (now (opcodes .entry)) (now (cntrls .entry)) (now (scalars .entry))) (now (list .entry)) (state (now (elements .entry)) control) ⌝ }
+{
+    let reply = acceptance::accept(control, opcodes, cntrls, scalars);
+    if !is_done(reply) {
+        return Ran { reply, control };
+    }
+    let program = program::program(opcodes, cntrls);
+    match order::verdict(program, opcodes.len(), control.vlr, list) {
+        Verdict::Permitted => {
+            let progress = runs::walk(elements, run::begin(control), program, scalars, list);
+            Ran {
+                reply: Reply::Done,
+                control: run::end(progress),
+            }
+        }
+        Verdict::Refused(place) => Ran {
+            reply: Reply::OrderRefused(place),
+            control,
+        },
+    }
+}

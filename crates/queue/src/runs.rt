@@ -1,0 +1,67 @@
+// The runs of an accepted queue: straight through, and by a list.
+use crate::program;
+use machine::Progress;
+use machine::instruction;
+use opcodes::Instruction;
+use state::Element;
+ghost use mathlib.Core.Path.{_≡_};
+ghost use Prim.Native.Nat.{ℕ, _≤_, _<_};
+ghost use lib.ListN.{length, getD};
+ghost use Rattle.machine.specs.Run.{run as runOf};
+ghost use Rattle.queue.specs.Queue.{straight as straightOf};
+ghost use Rattle.queue.specs.Order.{run};
+ghost use Rattle.queue.specs.Touch.{position};
+ghost use Rattle.queue.specs.Reply.{queue};
+ghost use Rattle.queue.specs.Tables.{Below, decodedAt, actBy};
+
+// Each instruction in queue order, done whole on what the last one left.
+pub fn straight(
+    elements: &mut [u64; 1024],
+    begun: Progress,
+    opcodes: &[u8],
+    cntrls: &[u16],
+    scalars: &[u64],
+) -> Progress
+    requires { ⌜ (begun .control .vlr ≤ 64) × (length (now cntrls) ≡ length (now opcodes)) × (length (now scalars) ≡ length (now opcodes)) ⌝ }
+    ensures { λ r. ⌜ runOf (now (elements .exit)) r ≡ straightOf (queue (now (opcodes .entry)) (now (cntrls .entry)) (now (scalars .entry))) (length (now (opcodes .entry))) (runOf (now (elements .entry)) begun) ⌝ }
+{
+    let mut progress = begun;
+    let mut k: usize = 0;
+    while k < opcodes.len() {
+        let instruction = program::instruction_from(opcodes[k], cntrls[k]);
+        progress = instruction::whole(&mut *elements, progress, instruction, scalars[k]);
+        k += 1;
+    }
+    progress
+}
+
+// The steps of a list, one entry at a time, each on what the last one left.
+pub fn walk(
+    elements: &mut [u64; 1024],
+    begun: Progress,
+    program: [Instruction; 16],
+    scalars: &[u64],
+    list: &[u64],
+) -> Progress
+    requires { ⌜ (begun .control .vlr ≤ 64) × (length (now scalars) ≤ 16) ⌝ }
+    requires { ⌜ ((k : ℕ) → k < length (now scalars) → Below (decodedAt program k)) ⌝ }
+    requires { ⌜ ((i : ℕ) → i < length (now list) → position (getD (now list) i 0) < length (now scalars)) ⌝ }
+    ensures { λ r. ⌜ runOf (now (elements .exit)) r ≡ run (actBy program (now (scalars .entry))) (now (list .entry)) (runOf (now (elements .entry)) begun) ⌝ }
+{
+    let mut progress = begun;
+    let mut i: usize = 0;
+    while i < list.len() {
+        let x = list[i];
+        let p = (x / 64) as usize;
+        let instruction = program[p];
+        progress = instruction::step(
+            &mut *elements,
+            progress,
+            instruction,
+            scalars[p],
+            Element((x % 64) as u8),
+        );
+        i += 1;
+    }
+    progress
+}
