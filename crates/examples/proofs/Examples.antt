@@ -11,12 +11,13 @@ use Rattle.state.specs.Answer.{done}
 use Rattle.state.specs.State.{State, state, inRange}
 use Rattle.opcodes.specs.Opcodes.{opcodeOf}
 use Rattle.opcodes.specs.ControlWord.{refused, controlWordOf}
+use Rattle.opcodes.specs.Decoding.{decodedOf}
 use Rattle.longword.specs.Longword.{sumOf, differenceOf, productOf}
 use Rattle.floating.specs.Round.{rounded}
 use Rattle.floating.specs.Delivered.{delivered}
 use Rattle.element.specs.Receives.{resultOf}
 use Rattle.machine.specs.Kind.{kindOf}
-use Rattle.machine.specs.Run.{gathered, ended}
+use Rattle.machine.specs.Run.{begun, gathered, ended, finished}
 use Rattle.machine.specs.Step.{operated, received, notes, written, worked, elementStep}
 use Rattle.machine.specs.Iota.{matching, turned, walked, iotaStep}
 use Rattle.machine.specs.Instruction.{stepOf, stepsBelow, wholeOf, instructionOf}
@@ -25,6 +26,11 @@ use Rattle.memory.specs.Window.{allowed}
 use Rattle.memory.specs.Address.{testOf, testStep}
 use Rattle.memory.specs.Move.{loadStep, movedOf}
 use Rattle.execute.specs.Execute.{Outcome, outcome, accepted, executedOf}
+use Rattle.queue.specs.Queue.{Queue, atPosition, positions, acceptance, instructionAt, straight}
+use Rattle.queue.specs.Order.{has, each, run, ready, ok, walk, check}
+use Rattle.queue.specs.Touch.{isStep, passing, stepsOf, act, below, reads, writes, meet, conflict, mustFollow}
+use Rattle.queue.specs.Run.{ranThrough, verdictOf, orderedRun, orderRefused}
+use Rattle.queue.specs.Run as byList
 
 -- each starts with VEN 1 and all that is not named zero
 abbrev zeros : List ℕ
@@ -145,3 +151,28 @@ second = record { vlr = 2; vmr = 2; vcr = 0; vaer = 0; vpsr = 1 }
 pub example-11 : executedOf (state zeros second) 0x34 0xE003 0 0xFFFFFFFC 4 (1 ∷ 2 ∷ 3 ∷ 4 ∷ []) 0 ≡ outcome (done 0) (state (set zeros 193 0x04030201) second) (1 ∷ 2 ∷ 3 ∷ 4 ∷ [])
 unfolding executedOf accepted movedOf allowed rising testOf testStep loadStep inRange opcodeOf refused controlWordOf
 example-11 = refl
+
+-- 12. VLR 2, V1 = 1, 2, V4 = 3, 4, longword queue V3 = V1+V2, then V1 = V4+V5: list 0, 64, 1, 65 ends with V3 = 1, 2 and V1 = 3, 4; 64, 0, 1, 65 gets 9 at
+-- 0
+abbrev queue-12 : Queue
+queue-12 = record { opcodes = 0x80 ∷ 0x80 ∷ []; controlWords = 0x2123 ∷ 0x2451 ∷ []; scalars = 0 ∷ 0 ∷ [] }
+
+abbrev in-turn : List ℕ
+in-turn = 0 ∷ 64 ∷ 1 ∷ 65 ∷ []
+
+-- V1, V3 and V4
+abbrev holding-12 : ℕ → ℕ → ℕ → ℕ → State
+holding-12 a b c d = state (set (set (set (set (set (set zeros 64 a) 65 b) 192 c) 193 d) 256 3) 257 4) (control 2 0 1)
+
+pub example-12 : orderedRun queue-12 in-turn (holding-12 1 2 0 0) ≡ byList.outcome (done 0) (holding-12 3 4 1 2)
+unfolding orderedRun acceptance positions atPosition verdictOf check walk ok ready each has mustFollow conflict meet reads writes below stepsOf passing isStep instructionAt ranThrough straight wholeOf stepsBelow stepOf elementStep operated worked received resultOf written gathered ended notes inRange opcodeOf refused controlWordOf decodedOf kindOf sumOf differenceOf productOf signed low32 overflows
+example-12 = refl
+
+-- the list walked one entry at a time ends there too
+pub example-12-steps : finished (run (act queue-12) in-turn (begun (holding-12 1 2 0 0))) ≡ holding-12 3 4 1 2
+unfolding run act instructionAt stepOf elementStep operated worked received resultOf written gathered ended notes opcodeOf refused controlWordOf decodedOf kindOf sumOf differenceOf productOf signed low32 overflows
+example-12-steps = refl
+
+pub example-12-refused : orderedRun queue-12 (64 ∷ 0 ∷ 1 ∷ 65 ∷ []) (holding-12 1 2 0 0) ≡ byList.outcome (orderRefused 0) (holding-12 1 2 0 0)
+unfolding orderedRun acceptance positions atPosition verdictOf check walk ok ready each has mustFollow conflict meet reads writes below stepsOf passing isStep instructionAt inRange opcodeOf refused controlWordOf decodedOf kindOf
+example-12-refused = refl
