@@ -1,0 +1,21 @@
+-- `lent::write_vmr_high` meets its contract: `Lent.antt`'s walk, at `control::write_vmr_high` and its definition.
+-- Assumes nothing.
+use contract.Running.{givenOf, tables, tablesOf}
+use denote.Triple.Spec.{tripleOf}
+use denote.Triple.Table.{entered, cited}
+use Rattle.control.specs.Moves.{vmrHighWritten as written}
+use Rattle.lent.proofs.Lent.{ByValue, meets}
+use Rattle.control.proofs.write_vmr_high.Symbol as by-value-def
+use Rattle.control.proofs.write_vmr_high.Met as by-value-thm
+use Rattle.lent.proofs.write_vmr_high.Key.{name as #write}
+use Rattle.lent.proofs.write_vmr_high as f
+use Rattle.lent.proofs.write_vmr_high.Statement as stated
+use Rattle.lent.proofs.write_vmr_high.Code as code
+
+pub write-vmr-high-spec : {M : Type 1} → stated.statement M
+unfolding code.routine tablesOf
+write-vmr-high-spec 𝓤 H 𝓜 𝓖 𝓡 =
+    entered 𝓤 H (tripleOf 𝓤 H (𝓖 .A) f.signature (f.spec 𝓤 H (𝓖 .A) (𝓜 .mem) (𝓡 .run)))
+    (tables 𝓤 H 𝓜 𝓡 code.env .C) (tables 𝓤 H 𝓜 𝓡 code.env .Λ) #write code.function (code.unfolded 𝓤 H 𝓜 𝓡)
+    (meets written 𝓤 H (𝓖 .A) (givenOf 𝓤 H 𝓜 𝓖) (tablesOf 𝓤 H 𝓜 (tables 𝓤 H 𝓜 𝓡 code.env)) by-value-def.name
+    (cited 𝓤 H (ByValue written 𝓤 H (𝓖 .A)) 𝓜 𝓡 code.env by-value-def.name by-value-def.routine code.calls-control·write-vmr-high (by-value-thm.met 𝓤 H 𝓜 𝓖 𝓡)))
