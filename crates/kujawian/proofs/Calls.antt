@@ -8,7 +8,9 @@ use Rattle.state.specs.declared.Control.{Control}
 use Rattle.state.specs.Answer.{Answer, answer}
 use Rattle.state.specs.State.{State, state}
 use Rattle.control.specs.Moves.{Outcome}
-use Rattle.kujawian.specs.Face.{controlOf, controlInto, written, left}
+use Rattle.execute.specs.Execute.{Outcome as Executed, outcome}
+use Rattle.queue.specs.Run.{Outcome as Ran, outcome as ranWith}
+use Rattle.kujawian.specs.Face.{controlOf, controlInto, written, left, ran, executed}
 
 -- storing what was read changes nothing: a refusal, after which the record is the one handed over, leaves the five numbers as they were
 pub stored-back : (l : List ℕ) → controlInto l (controlOf l) ≡ l
@@ -46,3 +48,17 @@ leaves call l c taken after elements next n b a e s g =
     ap (λ (x : Answer). (x, elements, after)) g
     ∙ ap (λ (m : List ℕ). (a, elements, m)) s
     ∙ ap (left l) (e ∙ ap call taken)
+
+-- a queue
+pub runs : (call : Control → Ran) (l : List ℕ) (c : Control) → c ≡ controlOf l → (after elements : List ℕ) (next : Control) (n b : ℕ) (a : Answer) → ranWith a (state elements next) ≡ call c
+    → after ≡ controlInto l next → answer n b ≡ a → (answer n b, elements, after) ≡ left l (ran (call (controlOf l)))
+runs call l c taken after elements next n b a e s g = leaves (λ (k : Control). ran (call k)) l c taken after elements next n b a (ap ran e) s g
+
+-- one instruction
+pub executes : (call : Control → Executed) (l : List ℕ) (c : Control) → c ≡ controlOf l → (after elements window : List ℕ) (next : Control) (n b : ℕ) (a : Answer) → outcome a (state elements next) window ≡ call c
+    → after ≡ controlInto l next → answer n b ≡ a → (answer n b, elements, after, window) ≡ executed l (call (controlOf l))
+unfolding executed
+executes call l c taken after elements window next n b a e s g =
+    ap (λ (x : Answer). (x, elements, after, window)) g
+    ∙ ap (λ (m : List ℕ). (a, elements, m, window)) s
+    ∙ ap (executed l) (e ∙ ap call taken)

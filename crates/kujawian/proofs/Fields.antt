@@ -1,51 +1,37 @@
 -- A reading as its kind and its bits, and what a refused one leaves. Assumes nothing.
-use mathlib.Core.Bool.{Bool, true, false, not, _&&_}
+use mathlib.Core.Bool.{Bool, true, false, _&&_}
 use mathlib.Core.Path.{_≡_, refl, sym, ap, subst, _∙_}
 use mathlib.Core.List.{List}
 use Prim.Native.Nat.{ℕ, zero, suc, _<_}
 use native.Mathlib.Omega.{arith}
-use lib.Dec.{T, ltb}
-use lib.Ieee.{Float, nan, inf, fin, isNan}
+use lib.Dec.{ltb}
 use borrow.Author.Tests.{ltb-true}
 use Rattle.numbers.specs.Choice.{pick}
 use Rattle.numbers.specs.Halves.{low}
 use Rattle.numbers.proofs.Tests.{and-right, pick-true, pick-false}
 use Rattle.state.specs.declared.Control.{Control}
-use Rattle.state.specs.Answer.{Answer, done, outOfRange, noSuchField}
+use Rattle.state.specs.Answer.{Answer, done, outOfRange}
 use Rattle.state.specs.State.{State, state, inRange}
 use Rattle.state.specs.Elements.{at}
 use Rattle.floating.specs.declared.Reading.{Reading}
-use Rattle.floating.specs.declared.Reading.the-variants.{Number, Longword, Reserved}
-use Rattle.floating.specs.Exact.{Exact, valueOf}
-use Rattle.floating.specs.Format.{F}
-use Rattle.floating.specs.Reading.{kindOf, bitsOf, IsValue}
+use Rattle.floating.specs.Reading.{kindOf, bitsOf}
 use Rattle.panel.specs.declared.Panel.{Panel}
 use Rattle.panel.specs.declared.Panel.the-variants as panel
-use Rattle.panel.specs.Panel.{isField, fieldAnswer, panelAnswer, kindShown, bitsShown, ShownAs, Holds, Answered}
-use Rattle.kujawian.specs.Face.{controlOf, IsNumber, fieldRead}
-
--- a reading with a value is a number
-valued : (x : Reading) (v : Exact) → IsValue x v → IsNumber x
-unfolding isNan
-valued (Number nan) v h = absurd h
-valued (Number (inf s)) v h = absurd h
-valued (Number (fin s m e)) v h = tt
-valued (Longword i) v h = tt
-valued (Reserved c) v h = tt
+use Rattle.panel.specs.Panel.{noSuchField, isField, fieldAnswer, panelAnswer, kindShown, bitsShown, ShownAs, Holds, Answered}
+use Rattle.kujawian.specs.Face.{controlOf, fieldRead}
 
 -- what is shown, as numbers
 record Numbers (kind word : ℕ) (x : Reading) : Type 0 where
   kind-is : kindOf x ≡ kindShown kind word
   bits-are : bitsOf x ≡ bitsShown kind word
-  number : IsNumber x
 
 numbers-of : (kind word : ℕ) (x : Reading) → kind < 2 → ShownAs kind word x → Numbers kind word x
 numbers-of zero word x h s =
     let f = s .floating refl in
-    record { kind-is = f .kind; bits-are = f .bits; number = valued x (valueOf F word) (f .value) }
+    record { kind-is = f .kind; bits-are = f .bits }
 numbers-of (suc zero) word x h s =
     let l = s .longword refl in
-    record { kind-is = ap kindOf (l .0); bits-are = l .1; number = subst IsNumber (sym (l .0)) tt }
+    record { kind-is = ap kindOf (l .0); bits-are = l .1 }
 numbers-of (suc (suc n)) word x h s = absurd (omega arith)
 
 -- the tests behind an answer
@@ -71,9 +57,6 @@ module _ (elements : List ℕ) (l : List ℕ) (c : Control) (taken : c ≡ contr
         let field = and-right (inRange c) (isField register element kind) tests in
         let k = and-right (ltb register 16) _ field in
         numbers-of kind (low (at elements register element)) x (ltb-true kind 2 (and-right (ltb element 64) (ltb kind 2) k)) (subst (Holds kind (low (at elements register element))) is (given .reading))
-
-    pub has-bits : IsNumber x
-    has-bits = shown .number
 
     pub field-shown : (k b kind₀ bits₀ : ℕ) → k ≡ kindOf x → b ≡ bitsOf x → (done 0, k, b) ≡ fieldRead (state elements (controlOf l)) register element kind kind₀ bits₀
     unfolding fieldRead

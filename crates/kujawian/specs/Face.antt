@@ -1,10 +1,8 @@
 -- The state as C hands it over: 1,024 numbers, element e of register r at r*64+e, and the control record as five numbers.
 -- Document 01, "Numbers given back": a call returns the number; what stands beside it goes to *beside.
-use mathlib.Core.Bool.{not, _&&_}
+use mathlib.Core.Bool.{_&&_}
 use mathlib.Core.List.{List}
 use Prim.Native.Nat.{ℕ}
-use lib.Dec.{T}
-use lib.Ieee.{isNan}
 use lib.ListN.{getD, set}
 use Rattle.numbers.specs.Choice.{pick}
 use Rattle.numbers.specs.Halves.{low}
@@ -13,8 +11,8 @@ use Rattle.state.specs.Answer.{Answer, done}
 use Rattle.state.specs.State.{State, state, inRange}
 use Rattle.state.specs.Elements.{at}
 use Rattle.control.specs.Moves.{Outcome}
-use Rattle.floating.specs.declared.Reading.{Reading}
-use Rattle.floating.specs.declared.Reading.the-variants.{Number, Longword, Reserved}
+use Rattle.execute.specs.Execute.{Outcome as Executed}
+use Rattle.queue.specs.Run.{Outcome as Ran}
 use Rattle.panel.specs.Panel.{isField, fieldAnswer, kindShown, bitsShown}
 
 -- the control record of five numbers, in the order of the saved records
@@ -36,11 +34,13 @@ written control o = (o .answer, controlInto control (o .control))
 unfoldable pub left : List ℕ → Answer × State → Answer × List ℕ × List ℕ
 left control o = (o .0, o .1 .elements, controlInto control (o .1 .control))
 
--- a reading has bits: a binary64 number is no NaN
-abbrev pub IsNumber : Reading → Type 0
-IsNumber (Number x) = T (not (isNan x))
-IsNumber (Longword i) = Unit {0}
-IsNumber (Reserved code) = Unit {0}
+-- the same of a queue
+abbrev pub ran : Ran → Answer × State
+ran o = (o .answer, o .state)
+
+-- the same of one instruction, and the window after it
+unfoldable pub executed : List ℕ → Executed → Answer × List ℕ × List ℕ × List ℕ
+executed control o = (o .answer, o .state .elements, controlInto control (o .state .control), o .window)
 
 -- what a reading gives back, and *kind_read and *bits after it: a refused one leaves them as they were
 unfoldable pub fieldRead : State → ℕ → ℕ → ℕ → ℕ → ℕ → Answer × ℕ × ℕ

@@ -2,7 +2,6 @@
 // writes what stands beside it; after a refusal nothing else has changed.
 mod answers;
 mod record;
-mod shown;
 
 use control::Written;
 use panel::Panel;
@@ -11,9 +10,12 @@ use state::Register;
 ghost use mathlib.Core.Path.{_≡_};
 ghost use Rattle.state.specs.Answer.{answer};
 ghost use Rattle.control.specs.Moves.{outcomeOf, vlrRead, vcrRead, vmrLowRead, vmrHighRead, vaerRead, vpsrRead, vlrWritten, vcrWritten, vmrLowWritten, vmrHighWritten, vpsrWritten};
+ghost use Rattle.execute.specs.Execute.{executedOf};
+ghost use Rattle.queue.specs.Reply.{queue as queueOf};
+ghost use Rattle.queue.specs.Run.{queueRun, orderedRun};
 ghost use Rattle.saved.specs.Save.{saving};
 ghost use Rattle.saved.specs.Load.{loading};
-ghost use Rattle.kujawian.specs.Face.{controlOf, stateOf, written, left, fieldRead};
+ghost use Rattle.kujawian.specs.Face.{controlOf, stateOf, written, left, ran, executed, fieldRead};
 
 #[no_mangle]
 pub extern "C" fn kuj_read_vlr(control: &[u64; 5], beside: &mut u64) -> u32
@@ -106,6 +108,82 @@ pub extern "C" fn kuj_write_vpsr(control: &mut [u64; 5], value: u32, beside: &mu
     alter(control, after, beside)
 }
 
+// Executes one instruction.
+#[no_mangle]
+pub extern "C" fn kuj_execute(
+    elements: &mut [u64; 1024],
+    control: &mut [u64; 5],
+    opcode: u8,
+    cntrl: u16,
+    scalar: u64,
+    base: u32,
+    stride: u32,
+    window: &mut [u8],
+    origin: u64,
+    beside: &mut u64,
+) -> u32
+    ensures { λ r. ⌜ (answer r (now (beside .exit)), now (elements .exit), now (control .exit), now (window .exit)) ≡ executed (now (control .entry)) (executedOf (stateOf (now (elements .entry)) (now (control .entry))) opcode cntrl scalar base stride (now (window .entry)) origin) ⌝ }
+{
+    let after = execute::execute(
+        elements,
+        record::of(control),
+        opcode,
+        cntrl,
+        scalar,
+        base,
+        stride,
+        window,
+        origin,
+    );
+    let given = after.answer;
+    record::store(control, after.control);
+    answers::of_execution(given, beside)
+}
+
+// Runs a queue straight through.
+#[no_mangle]
+pub extern "C" fn kuj_run(
+    elements: &mut [u64; 1024],
+    control: &mut [u64; 5],
+    opcodes: &[u8],
+    cntrls: &[u16],
+    scalars: &[u64],
+    beside: &mut u64,
+) -> u32
+    ensures { λ r. ⌜ (answer r (now (beside .exit)), now (elements .exit), now (control .exit)) ≡ left (now (control .entry)) (ran (queueRun (queueOf (now (opcodes .entry)) (now (cntrls .entry)) (now (scalars .entry))) (stateOf (now (elements .entry)) (now (control .entry))))) ⌝ }
+{
+    let after = queue::run(elements, record::of(control), opcodes, cntrls, scalars);
+    let given = after.reply;
+    record::store(control, after.control);
+    answers::of_reply(given, beside)
+}
+
+// Runs a queue by a list of its steps.
+#[no_mangle]
+pub extern "C" fn kuj_run_order(
+    elements: &mut [u64; 1024],
+    control: &mut [u64; 5],
+    opcodes: &[u8],
+    cntrls: &[u16],
+    scalars: &[u64],
+    order: &[u64],
+    beside: &mut u64,
+) -> u32
+    ensures { λ r. ⌜ (answer r (now (beside .exit)), now (elements .exit), now (control .exit)) ≡ left (now (control .entry)) (ran (orderedRun (queueOf (now (opcodes .entry)) (now (cntrls .entry)) (now (scalars .entry))) (now (order .entry)) (stateOf (now (elements .entry)) (now (control .entry))))) ⌝ }
+{
+    let after = queue::run_order(
+        elements,
+        record::of(control),
+        opcodes,
+        cntrls,
+        scalars,
+        order,
+    );
+    let given = after.reply;
+    record::store(control, after.control);
+    answers::of_reply(given, beside)
+}
+
 // Saves the state into lent bytes.
 #[no_mangle]
 pub extern "C" fn kuj_save(
@@ -159,8 +237,8 @@ pub extern "C" fn kuj_reading(
     *beside = 0;
     match given {
         Panel::Shown(reading) => {
-            *kind_read = shown::kind(reading);
-            *bits = shown::bits(reading);
+            *kind_read = floating::kind_of(reading);
+            *bits = floating::bits_of(reading);
             0
         }
         Panel::StateOutOfRange => 12,

@@ -38,6 +38,3 @@ valueRefused = answer 11 0
 
 abbrev pub outOfRange : Answer
 outOfRange = answer 12 0
-
-abbrev pub noSuchField : Answer
-noSuchField = answer 13 0

@@ -1,7 +1,7 @@
 -- `kuj_reading` meets its contract: a refused reading writes *beside alone. Assumes nothing.
 use native.Mathlib.Omega.{arith}
 use Rattle.panel.specs.declared.Panel.the-variants as panel
-use Rattle.kujawian.proofs.Fields.{has-bits, field-shown, field-refused}
+use Rattle.kujawian.proofs.Fields.{field-shown, field-refused}
 use borrow.Author.Needs.{needs}
 use Rattle.kujawian.proofs.kuj_reading.Statement.{statement}
 use Rattle.kujawian.proofs.kuj_reading.Tie as tie
@@ -15,13 +15,11 @@ reading-requires c κs = search needs
 enum-known-given : tie.Need-enum-known-given
 enum-known-given c = search needs
 
-kind-requires : tie.Need-kind-requires
-kind-requires c κs = search needs
+kind-of-requires : tie.Need-kind-of-requires
+kind-of-requires c κs = search needs
 
-bits-requires : tie.Need-bits-requires
-bits-requires c κs =
-    let r = c .before .before .before .before in
-    has-bits _ _ _ (r .before .of .ensures) _ _ _ _ (r .reading .ensures) _ (c .before .before .given .given .1)
+bits-of-requires : tie.Need-bits-of-requires
+bits-of-requires c κs = search needs
 
 enum-told : tie.Need-enum-told
 enum-told c = search needs
@@ -32,7 +30,7 @@ enum-told-2 c = search needs
 returns : tie.Need-returns
 returns c =
     let r = c .before .before .before .before .before in
-    field-shown _ _ _ (r .before .of .ensures) _ _ _ _ (r .reading .ensures) _ (c .before .before .before .given .given .1) _ _ _ _ (c .before .kind .ensures) (c .bits .ensures)
+    field-shown _ _ _ (r .before .of .ensures) _ _ _ _ (r .reading .ensures) _ (c .before .before .before .given .given .1) _ _ _ _ (c .before .kind-of .ensures) (c .bits-of .ensures)
 
 returns-2 : tie.Need-returns-2
 returns-2 c =
@@ -51,8 +49,8 @@ kuj-reading-spec =
     of-requires
     reading-requires
     enum-known-given
-    kind-requires
-    bits-requires
+    kind-of-requires
+    bits-of-requires
     enum-told
     enum-told-2
     returns
