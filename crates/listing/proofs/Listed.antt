@@ -13,7 +13,7 @@ use borrow.Author.Tests.{eq-eqb, ne-eqb, leb-true, le-leb, lt-leb}
 use Rattle.numbers.specs.Choice.{pick}
 use Rattle.numbers.specs.Over.{over}
 use Rattle.numbers.proofs.Tests.{and-left, and-right, and-both, pick-true, pick-false}
-use Rattle.state.specs.Answer.{Answer, done, badFile}
+use Rattle.state.specs.Answer.{Answer, answer, done, badFile}
 use Rattle.state.specs.State.{State, state, inRange}
 use Rattle.state.specs.declared.Control.{Control}
 use Rattle.saved.specs.Load.{accepted, leading, stateIn, loading, answerOf}
@@ -21,9 +21,9 @@ use Rattle.saved.specs.declared.Loaded.{Loaded}
 use Rattle.saved.specs.declared.Loaded.the-variants.{Done, BadRecord}
 use Rattle.saved.proofs.Loading.{gives-state}
 use Rattle.saved.proofs.RoundTrip.{ranges, control-ranged, done-accepted, loads-ranged, refused-at}
-use Rattle.listing.specs.Text.{widthOf, line, elementLine, elementText, elementLines, controlLines, listing, badLine, listed, printed, stateListed, fileListed}
+use Rattle.listing.specs.Text.{widthOf, line, elementLine, elementText, elementLines, controlLines, listing, badLine, answerLine, listed, printed, stateListed, fileListed, answerListed, digits}
 use Rattle.listing.specs.Wrote.{Wrote}
-use Rattle.listing.proofs.Writing.{wrote-both, line-length, element-length, width-two, WroteLine}
+use Rattle.listing.proofs.Writing.{wrote-both, digits-length, line-length, element-length, width-two, WroteLine, WroteDigits}
 
 -- ---- one element
 
@@ -135,6 +135,30 @@ width-four x w e = subst (λ (n : ℕ). n ≤ 4) (sym e) (either (ltb x 10) (ltb
     either false false true = omega arith
     either false false false = omega arith
 
+-- ---- an answer
+
+pub no-answer : (a : Answer) (t : List ℕ) → length t < 10 → (0, t) ≡ answerListed a t
+unfolding answerListed
+no-answer a t h = sym (pick-false (leb 10 (length t)) _ _ (lt-leb 10 (length t) h))
+
+pub answer-line-length : (a : Answer) → length (answerLine a) ≤ 10
+unfolding answerLine
+answer-line-length a =
+    let w₀ : widthOf (a .number) ≤ 4 = width-four (a .number) (widthOf (a .number)) refl in
+    let w₁ : widthOf (a .beside) ≤ 4 = width-four (a .beside) (widthOf (a .beside)) refl in
+    simp (length-append, digits-length, line-length) (omega arith)
+
+pub answer-listed : (t₀ t₁ t₂ : List ℕ) (n b w₀ w₁ p r : ℕ) → 10 ≤ length t₀ → w₀ ≡ widthOf n → WroteDigits t₀ t₁ 0 p 10 w₀ n → w₁ ≡ widthOf b → WroteLine t₁ t₂ p r (32 ∷ []) 10 w₁ b → (r, t₂) ≡ answerListed (answer n b) t₀
+unfolding answerListed answerLine printed
+answer-listed t₀ t₁ t₂ n b w₀ w₁ p r room e₀ d e₁ l =
+    let x : Wrote t₀ t₁ 0 p (digits 10 (widthOf n) n) = subst (λ (w : ℕ). Wrote t₀ t₁ 0 p (digits 10 w n)) e₀ (d .0) in
+    let y : Wrote t₁ t₂ p r (line (32 ∷ []) 10 (widthOf b) b) = subst (λ (w : ℕ). Wrote t₁ t₂ p r (line (32 ∷ []) 10 w b)) e₁ (l .0) in
+    let f : w₀ ≤ 4 = width-four n w₀ e₀ in
+    let k : length (digits 10 (widthOf n) n) ≡ w₀ = digits-length 10 (widthOf n) n ∙ sym e₀ in
+    let w = wrote-both t₀ t₁ t₂ 0 p r (digits 10 (widthOf n) n) (line (32 ∷ []) 10 (widthOf b) b) x y (omega arith) in
+    let z : r ≡ length (digits 10 (widthOf n) n ++ line (32 ∷ []) 10 (widthOf b) b) = omega (arith, w .place) in
+    (λ i. (z i, w .bytes i)) ∙ sym (pick-true (leb 10 (length t₀)) _ _ (le-leb 10 (length t₀) room))
+
 -- ---- 25,663 bytes hold every listing
 
 element-text-length : (k v : ℕ) → length (elementText k v) ≤ 25
@@ -161,7 +185,7 @@ control-length c e =
     let w₁ : widthOf (c .vcr) ≤ 2 = width-two (c .vcr) (widthOf (c .vcr)) (leb-true (c .vcr) 64 (r .1)) refl in
     simp (length-append, line-length) (omega arith)
 
-listing-length : (s : State) → inRange (s .control) ≡ true → length (listing s) ≤ 25663
+pub listing-length : (s : State) → inRange (s .control) ≡ true → length (listing s) ≤ 25663
 unfolding listing
 listing-length s e =
     let a : length (elementLines 1024 (s .elements)) ≤ 25 * 1024 = element-lines-length 1024 (s .elements) in

@@ -6,6 +6,7 @@ use lib.Dec.{ltb, leb, eqb}
 use lib.ListN.{length, getD}
 use Rattle.numbers.specs.Choice.{pick}
 use Rattle.numbers.specs.Over.{over}
+use Rattle.state.specs.Answer.{Answer}
 use Rattle.state.specs.State.{State, inRange}
 use Rattle.state.specs.declared.Control.{Control}
 use Rattle.saved.specs.Load.{leading, accepted, stateIn}
@@ -58,6 +59,10 @@ listing s = elementLines 1024 (s .elements) ++ controlLines (s .control)
 unfoldable pub badLine : ℕ → List ℕ
 badLine n = line (98 ∷ 97 ∷ 100 ∷ 32 ∷ 114 ∷ 101 ∷ 99 ∷ 111 ∷ 114 ∷ 100 ∷ 32 ∷ []) 10 (widthOf n) n
 
+-- an answer's line: the number, one space, what stands beside it
+unfoldable pub answerLine : Answer → List ℕ
+answerLine a = digits 10 (widthOf (a .number)) (a .number) ++ line (32 ∷ []) 10 (widthOf (a .beside)) (a .beside)
+
 -- the listing of the state that a file loads, or its first bad record
 unfoldable pub listed : List ℕ → List ℕ
 listed file = pick (accepted file) (listing (stateIn file)) (badLine (leading 1029 file))
@@ -73,3 +78,7 @@ stateListed s bytes = pick (inRange (s .control) && leb 25663 (length bytes)) (p
 
 unfoldable pub fileListed : List ℕ → List ℕ → ℕ × List ℕ
 fileListed file bytes = pick (leb 25663 (length bytes)) (printed (listed file) bytes) (0, bytes)
+
+-- 10 bytes hold every answer's line
+unfoldable pub answerListed : Answer → List ℕ → ℕ × List ℕ
+answerListed a bytes = pick (leb 10 (length bytes)) (printed (answerLine a) bytes) (0, bytes)

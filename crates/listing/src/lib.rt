@@ -8,8 +8,9 @@ use state::Register;
 ghost use mathlib.Core.Path.{_≡_};
 ghost use Prim.Native.Nat.{_+_, _<_, _≤_};
 ghost use lib.ListN.{length};
+ghost use Rattle.state.specs.Answer.{answer as answerOf};
 ghost use Rattle.state.specs.State.{state as stateOf};
-ghost use Rattle.listing.specs.Text.{elementText, elementLines, stateListed, fileListed};
+ghost use Rattle.listing.specs.Text.{elementText, elementLines, stateListed, answerListed, fileListed};
 ghost use Rattle.listing.specs.Wrote.{Wrote};
 
 // Writes the line of record k, if it has one.
@@ -52,6 +53,17 @@ pub fn list_state(elements: &[u64; 1024], control: Control, text: &mut [u8]) -> 
         return write::control_lines(text, at, control);
     }
     0
+}
+
+// Prints an answer's line.
+pub fn list_answer(number: u64, beside: u64, text: &mut [u8]) -> usize
+    ensures { λ r. ⌜ (r, now (text .exit)) ≡ answerListed (answerOf number beside) (now (text .entry)) ⌝ }
+{
+    if text.len() < 10 {
+        return 0;
+    }
+    let at = write::number(&mut *text, 0, 10, write::width(number), number);
+    write::line(text, at, b" ", 10, write::width(beside), beside)
 }
 
 // Prints the listing of a saved file, or its first bad record.

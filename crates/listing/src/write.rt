@@ -34,7 +34,7 @@ fn digit(d: u64) -> u8
 }
 
 // The last n digits of x, from the lowest up.
-fn number(text: &mut [u8], at: usize, base: u64, n: usize, x: u64) -> usize
+pub(crate) fn number(text: &mut [u8], at: usize, base: u64, n: usize, x: u64) -> usize
     requires { ⌜ (1 < base) × (base ≤ 16) × (at + n ≤ length (now text)) ⌝ }
     ensures { λ r. ⌜ Wrote (now (text .entry)) (now (text .exit)) at r (digits base n x) × (r ≡ at + n) ⌝ }
 {
