@@ -3,24 +3,23 @@ use mathlib.Core.Path.{_≡_, refl, sym, ap, subst, _∙_}
 use mathlib.Core.Bool.{Bool, true, false, _&&_}
 use mathlib.Core.Logic.{inl, inr}
 use mathlib.Core.List.{List, [], _∷_}
-use Prim.Native.Nat.{ℕ, zero, suc, _≤_, _<_}
+use Prim.Native.Nat.{ℕ, suc, _≤_, _<_}
 use native.Mathlib.Omega.{arith}
 use borrow.Author.Tests.{leb-true}
-use lib.Dec.{leb}
 use lib.ListN.{length, getD}
 use Rattle.numbers.specs.Choice.{pick}
 use Rattle.state.specs.declared.Control.{Control}
-use Rattle.state.specs.Answer.{Answer, done, disabled, outOfRange}
-use Rattle.state.specs.State.{State, state, inRange, enabled, lengthInRange, vaerInRange, vpsrInRange}
+use Rattle.state.specs.Answer.{Answer, done, outOfRange}
+use Rattle.state.specs.State.{state, inRange, lengthInRange, vaerInRange, vpsrInRange}
 use Rattle.machine.specs.declared.Progress.{Progress}
 use Rattle.machine.specs.Run.{run, progress, ended, finished}
 use Rattle.queue.specs.declared.Reply.{Reply}
-use Rattle.queue.specs.Queue.{Queue, size, wellFormed, fine, positions, acceptance, queueRefused, straight, instructionAt}
+use Rattle.queue.specs.Queue.{Queue, size, wellFormed, fine, acceptance, queueRefused, straight, instructionAt}
 use Rattle.queue.specs.Reply.{replyAnswer}
-use Rattle.queue.specs.Run.{Outcome, outcome, orderRefused, ranThrough, queueRun, verdictOf, byVerdict, orderedRun}
+use Rattle.queue.specs.Run.{outcome, orderRefused, ranThrough, queueRun, verdictOf, byVerdict, orderedRun}
 use Rattle.queue.specs.Order.{Mem, Proper, run as walkOf}
 use Rattle.queue.specs.Touch.{position, stepsOf, mustFollow, act}
-use Rattle.queue.specs.Tables.{Below, decodedAt, actBy}
+use Rattle.queue.specs.Tables.{decodedAt, actBy}
 use Rattle.queue.specs.declared.Verdict.{Verdict}
 use Rattle.queue.specs.declared.Verdict.the-variants as verdict
 use Rattle.opcodes.specs.declared.Instruction.{Instruction}

@@ -6,7 +6,7 @@ use mathlib.Core.List.{List}
 use Prim.Native.Nat.{ℕ, zero, suc, _+_, _-_, _*_, _/_, _%_, _^_, _<_, _≤_, zero-le}
 use native.Mathlib.Omega.{arith}
 use native.Mathlib.Decide.{ℕ-discrete}
-use borrow.Author.Tests.{eq-eqb, ne-eqb, eqb-true, eqb-false, ltb-true, lt-ltb}
+use borrow.Author.Tests.{eq-eqb, ne-eqb, eqb-true, ltb-true, lt-ltb}
 use lib.Dec.{T, eqb, ltb}
 use lib.Bits.{bitOr}
 use lib.ListN.{length, getD, set, replicate, length-set}
@@ -18,7 +18,7 @@ use Rattle.numbers.proofs.BitLaws.{one-shifted}
 use Rattle.queue.specs.declared.Verdict.the-variants.{Permitted, Refused}
 use Rattle.queue.specs.Order.{Mem, has, each, check}
 use Rattle.queue.specs.Touch.{position, element}
-use Rattle.queue.specs.Tables.{joined, joinedIf, within, countBy, isStepBy, stepsBy, followsBy, verdictBy, Marks, marks, has-come, seenBy, mayCome, marked, fullAtStart}
+use Rattle.queue.specs.Tables.{joined, joinedIf, within, countBy, isStepBy, stepsBy, followsBy, verdictBy, Marks, marks, hasCome, seenBy, mayCome, marked, fullAtStart}
 use Rattle.queue.proofs.Tests.{T-true, each→, →each, has→mem, mem→has}
 use Rattle.queue.proofs.Places.{same-bool, true-T}
 use Rattle.queue.proofs.Steps.{passing→, →passing}
@@ -60,12 +60,12 @@ position-at k e h = omega arith
 element-at : (k e : ℕ) → e < 64 → element (k * 64 + e) ≡ e
 element-at k e h = omega arith
 
-pub come-at : (came : List ℕ) (k e : ℕ) → e < 64 → has-come came (k * 64 + e) ≡ bit (getD came e 0) k
+pub come-at : (came : List ℕ) (k e : ℕ) → e < 64 → hasCome came (k * 64 + e) ≡ bit (getD came e 0) k
 come-at came k e h = ap₂ (λ (i j : ℕ). bit (getD came i 0) j) (element-at k e h) (position-at k e h)
 
 -- the marks after one more has come
 pub come-more : (came : List ℕ) (x y : ℕ) → length came ≡ 64
-    → has-come (set came (element x) (joined (getD came (element x) 0) (position x))) y ≡ (eqb y x || has-come came y)
+    → hasCome (set came (element x) (joined (getD came (element x) 0) (position x))) y ≡ (eqb y x || hasCome came y)
 come-more came x y long = go (ℕ-discrete (element y) (element x)) (ℕ-discrete (position y) (position x))
   where
     new : ℕ
@@ -74,7 +74,7 @@ come-more came x y long = go (ℕ-discrete (element y) (element x)) (ℕ-discret
     room : element x < length came
     room = omega arith
 
-    go : Dec (element y ≡ element x) → Dec (position y ≡ position x) → has-come (set came (element x) (joined (getD came (element x) 0) (position x))) y ≡ (eqb y x || has-come came y)
+    go : Dec (element y ≡ element x) → Dec (position y ≡ position x) → hasCome (set came (element x) (joined (getD came (element x) 0) (position x))) y ≡ (eqb y x || hasCome came y)
     go (yes e) d =
         ap (λ (i : ℕ). bit (getD (set came (element x) (joined (getD came (element x) 0) (position x))) i 0) (position y)) e
         ∙ ap (λ (s : ℕ). bit s (position y)) (getD-set-same came (element x) (joined (getD came (element x) 0) (position x)) 0 room)
@@ -86,7 +86,7 @@ come-more came x y long = go (ℕ-discrete (element y) (element x)) (ℕ-discret
         at (no f) = ne-eqb (position y) (position x) f ∙ sym (ne-eqb y x (λ z. f (ap (λ (i : ℕ). i / 64) z)))
     go (no e) d =
         ap (λ (s : ℕ). bit s (position y)) (getD-set-other came (element x) (element y) (joined (getD came (element x) 0) (position x)) 0 e)
-        ∙ ap (λ (t : Bool). t || has-come came y) (sym (ne-eqb y x (λ z. e (ap (λ (i : ℕ). i % 64) z))))
+        ∙ ap (λ (t : Bool). t || hasCome came y) (sym (ne-eqb y x (λ z. e (ap (λ (i : ℕ). i % 64) z))))
 
 module _ (n vlr iotas : ℕ) where
   pub record IsStep (x : ℕ) : Type 0 where
@@ -97,9 +97,9 @@ module _ (n vlr iotas : ℕ) where
   pub record Marked (bound list : List ℕ) (m : Marks) (i : ℕ) : Type 0 where
     pub came-long : length (m .came) ≡ 64
     pub gone-long : length (m .gone) ≡ 16
-    pub on : CheckInv (followsBy iotas bound) (stepsBy n vlr iotas) list (has-come (m .came)) i
-    pub only : (y : ℕ) → has-come (m .came) y ≡ true → y < 1024 → IsStep y
-    pub tallied : (k : ℕ) → k < n → getD (m .gone) k 0 ≡ tally (λ (e : ℕ). has-come (m .came) (k * 64 + e)) (countBy vlr iotas k)
+    pub on : CheckInv (followsBy iotas bound) (stepsBy n vlr iotas) list (hasCome (m .came)) i
+    pub only : (y : ℕ) → hasCome (m .came) y ≡ true → y < 1024 → IsStep y
+    pub tallied : (k : ℕ) → k < n → getD (m .gone) k 0 ≡ tally (λ (e : ℕ). hasCome (m .came) (k * 64 + e)) (countBy vlr iotas k)
     pub fulls : (k : ℕ) → k < n → bit (m .full) k ≡ eqb (getD (m .gone) k 0) (countBy vlr iotas k)
 
 module _ (n vlr iotas : ℕ) (few : n ≤ 16) (short : vlr ≤ 64) where
@@ -150,19 +150,19 @@ module _ (n vlr iotas : ℕ) (few : n ≤ 16) (short : vlr ≤ 64) where
   module _ (bound : List ℕ) (earlier : (p k : ℕ) → p < n → bit (getD bound p 0) k ≡ true → k < p) where
     module _ (list : List ℕ) (m : Marks) (i : ℕ) (inv : Marked n vlr iotas bound list m i) where
       -- a position is full exactly where each of its steps has come
-      full→ : (k : ℕ) → k < n → bit (m .full) k ≡ true → (e : ℕ) → e < countBy vlr iotas k → has-come (m .came) (k * 64 + e) ≡ true
+      full→ : (k : ℕ) → k < n → bit (m .full) k ≡ true → (e : ℕ) → e < countBy vlr iotas k → hasCome (m .came) (k * 64 + e) ≡ true
       full→ k h f =
-          tally-all (λ (e : ℕ). has-come (m .came) (k * 64 + e)) (countBy vlr iotas k)
+          tally-all (λ (e : ℕ). hasCome (m .came) (k * 64 + e)) (countBy vlr iotas k)
           (sym (inv .tallied k h) ∙ eqb-true (getD (m .gone) k 0) (countBy vlr iotas k) (sym (inv .fulls k h) ∙ f))
 
-      →full : (k : ℕ) → k < n → ((e : ℕ) → e < countBy vlr iotas k → has-come (m .came) (k * 64 + e) ≡ true) → bit (m .full) k ≡ true
+      →full : (k : ℕ) → k < n → ((e : ℕ) → e < countBy vlr iotas k → hasCome (m .came) (k * 64 + e) ≡ true) → bit (m .full) k ≡ true
       →full k h f =
           inv .fulls k h
           ∙ eq-eqb (getD (m .gone) k 0) (countBy vlr iotas k)
-          (inv .tallied k h ∙ all-tally (λ (e : ℕ). has-come (m .came) (k * 64 + e)) (countBy vlr iotas k) f)
+          (inv .tallied k h ∙ all-tally (λ (e : ℕ). hasCome (m .came) (k * 64 + e)) (countBy vlr iotas k) f)
 
-      full-step : (a : ℕ) → IsStep n vlr iotas a → bit (m .full) (position a) ≡ true → has-come (m .came) a ≡ true
-      full-step a s f = subst (λ (y : ℕ). has-come (m .came) y ≡ true) (whole-step a) (full→ (position a) (s .at) f (element a) (s .of))
+      full-step : (a : ℕ) → IsStep n vlr iotas a → bit (m .full) (position a) ≡ true → hasCome (m .came) a ≡ true
+      full-step a s f = subst (λ (y : ℕ). hasCome (m .came) y ≡ true) (whole-step a) (full→ (position a) (s .at) f (element a) (s .of))
 
       -- ---- an entry that is a step
       module _ (x : ℕ) (sx : IsStep n vlr iotas x) where
@@ -174,17 +174,17 @@ module _ (n vlr iotas : ℕ) (few : n ≤ 16) (short : vlr ≤ 64) where
 
         -- the entry's test by marks, in full
         abbrev awaited : ℕ → Bool
-        awaited a = not (followsBy iotas bound a x) || has-come (m .came) a
+        awaited a = not (followsBy iotas bound a x) || hasCome (m .came) a
 
         abbrev needed : ℕ
         needed = getD bound (position x) 0
 
         -- every step that x must follow has come: no position holds it up
         module _ (t : T (each awaited (stepsBy n vlr iotas))) where
-          comes : (k e : ℕ) → k < n → e < countBy vlr iotas k → bit needed k ≡ true → (bit iotas k || bit iotas (position x) || eqb e (element x)) ≡ true → has-come (m .came) (k * 64 + e) ≡ true
+          comes : (k e : ℕ) → k < n → e < countBy vlr iotas k → bit needed k ≡ true → (bit iotas k || bit iotas (position x) || eqb e (element x)) ≡ true → hasCome (m .came) (k * 64 + e) ≡ true
           comes k e h g f o =
               let small = count-le k in
-              implies (followsBy iotas bound (k * 64 + e) x) (has-come (m .came) (k * 64 + e))
+              implies (followsBy iotas bound (k * 64 + e) x) (hasCome (m .came) (k * 64 + e))
               (each→ awaited (stepsBy n vlr iotas) t (k * 64 + e) (step→mem (k * 64 + e) (step-at k e h g)))
               (follows-at k e (omega arith) f o)
 
@@ -223,7 +223,7 @@ module _ (n vlr iotas : ℕ) (few : n ≤ 16) (short : vlr ≤ 64) where
           after : (a : ℕ) → IsStep n vlr iotas a → (ip ia : Bool) → bit iotas (position x) ≡ ip → bit iotas (position a) ≡ ia
               → (ia || ip || eqb (element a) (element x)) ≡ true
               → bit (pick ip (m .full) (bitOr (getD (m .came) (element x) 0) (m .full))) (position a) ≡ true
-              → has-come (m .came) a ≡ true
+              → hasCome (m .came) a ≡ true
           after a sa true ia ep ea o f = full-step a sa f
           after a sa false ia ep ea o f =
               elim (either (bit (getD (m .came) (element x) 0) (position a)) (bit (m .full) (position a)) (sym (bit-or (getD (m .came) (element x) 0) (m .full) (position a)) ∙ f)) [
@@ -250,7 +250,7 @@ module _ (n vlr iotas : ℕ) (few : n ≤ 16) (short : vlr ≤ 64) where
           passes : (a : ℕ) → Mem a (stepsBy n vlr iotas) → T (awaited a)
           unfolding followsBy
           passes a mem =
-              implied (followsBy iotas bound a x) (has-come (m .came) a)
+              implied (followsBy iotas bound a x) (hasCome (m .came) a)
               (λ e.
               let u = both (bit needed (position a)) (bit iotas (position a) || bit iotas (position x) || eqb (element a) (element x)) e in
               after a (mem→step a mem) (bit iotas (position x)) (bit iotas (position a)) refl refl (u .1) (within→ needed (seenBy iotas m x) w (position a) (u .0)))
@@ -262,37 +262,37 @@ module _ (n vlr iotas : ℕ) (few : n ≤ 16) (short : vlr ≤ 64) where
             (λ t. →each awaited (stepsBy n vlr iotas) (passes (true-T _ t)))
 
       -- THE CODE'S TEST IS THE CHECK'S
-      may-same : (x : ℕ) → mayBy (followsBy iotas bound) (stepsBy n vlr iotas) (has-come (m .came)) x ≡ mayCome n vlr iotas bound m x
+      may-same : (x : ℕ) → mayBy (followsBy iotas bound) (stepsBy n vlr iotas) (hasCome (m .came)) x ≡ mayCome n vlr iotas bound m x
       unfolding mayBy mayCome
       may-same x =
-          ap (λ (b : Bool). b && (not (has-come (m .came) x) && each (λ (a : ℕ). not (followsBy iotas bound a x) || has-come (m .came) a) (stepsBy n vlr iotas))) (has-step x)
+          ap (λ (b : Bool). b && (not (hasCome (m .came) x) && each (λ (a : ℕ). not (followsBy iotas bound a x) || hasCome (m .came) a) (stepsBy n vlr iotas))) (has-step x)
           ∙ go (isStepBy n vlr iotas x) refl
         where
           go : (b : Bool) → isStepBy n vlr iotas x ≡ b
-              → (b && (not (has-come (m .came) x) && each (λ (a : ℕ). not (followsBy iotas bound a x) || has-come (m .came) a) (stepsBy n vlr iotas)))
-              ≡ (b && (not (has-come (m .came) x) && within (getD bound (position x) 0) (seenBy iotas m x)))
-          go true e = ap (λ (b : Bool). not (has-come (m .came) x) && b) (ready-same x (step→ x e))
+              → (b && (not (hasCome (m .came) x) && each (λ (a : ℕ). not (followsBy iotas bound a x) || hasCome (m .came) a) (stepsBy n vlr iotas)))
+              ≡ (b && (not (hasCome (m .came) x) && within (getD bound (position x) 0) (seenBy iotas m x)))
+          go true e = ap (λ (b : Bool). not (hasCome (m .came) x) && b) (ready-same x (step→ x e))
           go false e = refl
 
       -- the code's answers
       pub entry-stops : i < length list → mayCome n vlr iotas bound m (getD list i 0) ≡ false → Refused i ≡ verdictBy n vlr iotas bound list
       unfolding verdictBy
-      entry-stops h e = check-stop (followsBy iotas bound) (stepsBy n vlr iotas) list (has-come (m .came)) i (inv .on) h (may-same (getD list i 0) ∙ e)
+      entry-stops h e = check-stop (followsBy iotas bound) (stepsBy n vlr iotas) list (hasCome (m .came)) i (inv .on) h (may-same (getD list i 0) ∙ e)
 
       -- no step is missing exactly where every position is full
-      complete : each (has-come (m .came)) (stepsBy n vlr iotas) ≡ within (2 ^ n - 1) (m .full)
+      complete : each (hasCome (m .came)) (stepsBy n vlr iotas) ≡ within (2 ^ n - 1) (m .full)
       complete =
-          same-bool (each (has-come (m .came)) (stepsBy n vlr iotas)) (within (2 ^ n - 1) (m .full))
+          same-bool (each (hasCome (m .came)) (stepsBy n vlr iotas)) (within (2 ^ n - 1) (m .full))
           (λ t. T-true _ (→within (2 ^ n - 1) (m .full) (λ k b. let h = ltb-true k n (sym (bit-below n k) ∙ b) in
-          →full k h (λ e g. true-T _ (each→ (has-come (m .came)) (stepsBy n vlr iotas) t (k * 64 + e) (step→mem (k * 64 + e) (step-at k e h g)))))))
-          (λ t. →each (has-come (m .came)) (stepsBy n vlr iotas) (λ a mem.
+          →full k h (λ e g. true-T _ (each→ (hasCome (m .came)) (stepsBy n vlr iotas) t (k * 64 + e) (step→mem (k * 64 + e) (step-at k e h g)))))))
+          (λ t. →each (hasCome (m .came)) (stepsBy n vlr iotas) (λ a mem.
           let s = mem→step a mem in
           T-true _ (full-step a s (within→ (2 ^ n - 1) (m .full) (true-T _ t) (position a) (bit-below n (position a) ∙ lt-ltb (position a) n (s .at))))))
 
       pub list-ends : length list ≤ i → verdictBy n vlr iotas bound list ≡ pick (within (2 ^ n - 1) (m .full)) Permitted (Refused i)
       unfolding verdictBy
       list-ends h =
-          check-end (followsBy iotas bound) (stepsBy n vlr iotas) list (has-come (m .came)) i (inv .on) h
+          check-end (followsBy iotas bound) (stepsBy n vlr iotas) list (hasCome (m .came)) i (inv .on) h
           ∙ ap (λ (b : Bool). pick b Permitted (Refused i)) complete
 
       pub list-permitted : length list ≤ i → (r : Bool) → r ≡ within (1 * 2 ^ n % 18446744073709551616 - 1) (m .full) → r ≡ true → Permitted ≡ verdictBy n vlr iotas bound list
@@ -306,17 +306,17 @@ module _ (n vlr iotas : ℕ) (few : n ≤ 16) (short : vlr ≤ 64) where
         abbrev x : ℕ
         x = getD list i 0
 
-        allowed : (isStepBy n vlr iotas (getD list i 0) ≡ true) × (not (has-come (m .came) (getD list i 0)) ≡ true)
+        allowed : (isStepBy n vlr iotas (getD list i 0) ≡ true) × (not (hasCome (m .came) (getD list i 0)) ≡ true)
         unfolding mayCome
         allowed =
             let u = both (isStepBy n vlr iotas (getD list i 0)) _ may in
-            (u .0, both (not (has-come (m .came) (getD list i 0))) _ (u .1) .0)
+            (u .0, both (not (hasCome (m .came) (getD list i 0))) _ (u .1) .0)
 
         pub entry-step : IsStep n vlr iotas (getD list i 0)
         entry-step = step→ (getD list i 0) (allowed .0)
 
-        fresh : has-come (m .came) (getD list i 0) ≡ false
-        fresh = not-is (has-come (m .came) (getD list i 0)) (allowed .1)
+        fresh : hasCome (m .came) (getD list i 0) ≡ false
+        fresh = not-is (hasCome (m .came) (getD list i 0)) (allowed .1)
           where
             not-is : (b : Bool) → not b ≡ true → b ≡ false
             not-is true e = sym e
@@ -324,17 +324,17 @@ module _ (n vlr iotas : ℕ) (few : n ≤ 16) (short : vlr ≤ 64) where
 
         pub gone-le : getD (m .gone) (position (getD list i 0)) 0 ≤ 64
         gone-le = let s = inv .tallied (position x) (entry-step .at) in
-            omega (arith, tally-le (λ (e : ℕ). has-come (m .came) (position x * 64 + e)) (countBy vlr iotas (position x)), count-le (position x))
+            omega (arith, tally-le (λ (e : ℕ). hasCome (m .came) (position x * 64 + e)) (countBy vlr iotas (position x)), count-le (position x))
 
         abbrev came′ : List ℕ
         came′ = set (m .came) (element x) (joined (getD (m .came) (element x) 0) (position x))
 
         -- the tests of position k's steps
         abbrev old : ℕ → ℕ → Bool
-        old k e = has-come (m .came) (k * 64 + e)
+        old k e = hasCome (m .came) (k * 64 + e)
 
         abbrev new : ℕ → ℕ → Bool
-        new k e = has-come (set (m .came) (element x) (joined (getD (m .came) (element x) 0) (position x))) (k * 64 + e)
+        new k e = hasCome (set (m .came) (element x) (joined (getD (m .came) (element x) 0) (position x))) (k * 64 + e)
 
         -- x is not full yet
         not-full : bit (m .full) (position (getD list i 0)) ≡ false
@@ -346,14 +346,14 @@ module _ (n vlr iotas : ℕ) (few : n ≤ 16) (short : vlr ≤ 64) where
 
         gone′ : (k : ℕ) → k < n → Dec (k ≡ position (getD list i 0))
             → getD (set (m .gone) (position (getD list i 0)) (getD (m .gone) (position (getD list i 0)) 0 + 1)) k 0
-            ≡ tally (λ (e : ℕ). has-come (set (m .came) (element (getD list i 0)) (joined (getD (m .came) (element (getD list i 0)) 0) (position (getD list i 0)))) (k * 64 + e)) (countBy vlr iotas k)
+            ≡ tally (λ (e : ℕ). hasCome (set (m .came) (element (getD list i 0)) (joined (getD (m .came) (element (getD list i 0)) 0) (position (getD list i 0)))) (k * 64 + e)) (countBy vlr iotas k)
         gone′ k l (yes e) =
             let s = entry-step in
             ap (λ (j : ℕ). getD (set (m .gone) (position x) (getD (m .gone) (position x) 0 + 1)) j 0) e
             ∙ getD-set-same (m .gone) (position x) (getD (m .gone) (position x) 0 + 1) 0 (let g = inv .gone-long in let u = s .at in omega arith)
             ∙ ap (λ (j : ℕ). j + 1) (inv .tallied (position x) (s .at))
             ∙ sym (tally-more (old (position x)) (new (position x)) (countBy vlr iotas (position x)) (element x) (s .of)
-            (subst (λ (y : ℕ). has-come (m .came) y ≡ false) (sym (whole-step x)) fresh)
+            (subst (λ (y : ℕ). hasCome (m .came) y ≡ false) (sym (whole-step x)) fresh)
             (λ j g. come-more (m .came) x (position x * 64 + j) (inv .came-long) ∙ ap (λ (b : Bool). b || old (position x) j) (named j)))
             ∙ ap (λ (j : ℕ). tally (new j) (countBy vlr iotas j)) (sym e)
           where
@@ -399,15 +399,15 @@ module _ (n vlr iotas : ℕ) (few : n ≤ 16) (short : vlr ≤ 64) where
         entry-comes m′ e = subst (λ (v : Marks). Marked n vlr iotas bound list v (i + 1)) (sym e) (record {
           came-long = simp length-set (inv .came-long);
           gone-long = simp length-set (inv .gone-long);
-          on = check-on (followsBy iotas bound) (stepsBy n vlr iotas) list (has-come (m .came)) i (inv .on) h (may-same x ∙ may) (has-come came′) (λ y mem. come-more (m .came) x y (inv .came-long));
+          on = check-on (followsBy iotas bound) (stepsBy n vlr iotas) list (hasCome (m .came)) i (inv .on) h (may-same x ∙ may) (hasCome came′) (λ y mem. come-more (m .came) x y (inv .came-long));
           only = λ y c l. one y c l (ℕ-discrete y x);
           tallied = λ k l. gone′ k l (ℕ-discrete k (position x));
           fulls = λ k l. fulls′ k l (ℕ-discrete k (position x));
         })
           where
-            one : (y : ℕ) → has-come (set (m .came) (element (getD list i 0)) (joined (getD (m .came) (element (getD list i 0)) 0) (position (getD list i 0)))) y ≡ true → y < 1024 → Dec (y ≡ getD list i 0) → IsStep n vlr iotas y
+            one : (y : ℕ) → hasCome (set (m .came) (element (getD list i 0)) (joined (getD (m .came) (element (getD list i 0)) 0) (position (getD list i 0)))) y ≡ true → y < 1024 → Dec (y ≡ getD list i 0) → IsStep n vlr iotas y
             one y c l (yes z) = subst (IsStep n vlr iotas) (sym z) entry-step
-            one y c l (no z) = inv .only y (sym (come-more (m .came) (getD list i 0) y (inv .came-long) ∙ ap (λ (b : Bool). b || has-come (m .came) y) (ne-eqb y (getD list i 0) z)) ∙ c) l
+            one y c l (no z) = inv .only y (sym (come-more (m .came) (getD list i 0) y (inv .came-long) ∙ ap (λ (b : Bool). b || hasCome (m .came) y) (ne-eqb y (getD list i 0) z)) ∙ c) l
 
     -- ---- at the start nothing has come
     zeros : (l j : ℕ) → _≡_ {A = ℕ} (getD (replicate l 0) j 0) 0
@@ -415,16 +415,16 @@ module _ (n vlr iotas : ℕ) (few : n ≤ 16) (short : vlr ≤ 64) where
     zeros (suc l) zero = refl
     zeros (suc l) (suc j) = zeros l j
 
-    none-came : (y : ℕ) → has-come (replicate 64 0) y ≡ false
+    none-came : (y : ℕ) → hasCome (replicate 64 0) y ≡ false
     none-came y = ap (λ (s : ℕ). bit s (position y)) (zeros 64 (element y)) ∙ bit-none (position y)
 
     pub pass-starts : iotas < 2 ^ 64 → (list : List ℕ) (full : ℕ) → full ≡ fullAtStart vlr iotas → Marked n vlr iotas bound list (marks (replicate 64 0) (replicate 16 0) full) 0
     pass-starts fits list full e = record {
       came-long = refl;
       gone-long = refl;
-      on = check-start (followsBy iotas bound) (stepsBy n vlr iotas) list (has-come (replicate 64 0)) (λ y m. none-came y);
+      on = check-start (followsBy iotas bound) (stepsBy n vlr iotas) list (hasCome (replicate 64 0)) (λ y m. none-came y);
       only = λ y c l. absurd (clash (sym c ∙ none-came y));
-      tallied = λ k l. zeros 16 k ∙ sym (tally-none (λ (j : ℕ). has-come (replicate 64 0) (k * 64 + j)) (countBy vlr iotas k) (λ j g. none-came (k * 64 + j)));
+      tallied = λ k l. zeros 16 k ∙ sym (tally-none (λ (j : ℕ). hasCome (replicate 64 0) (k * 64 + j)) (countBy vlr iotas k) (λ j g. none-came (k * 64 + j)));
       fulls = λ k l. ap (λ (s : ℕ). bit s k) e ∙ empty k l (ℕ-discrete vlr 0) ∙ sym (ap (λ (v : ℕ). eqb v (countBy vlr iotas k)) (zeros 16 k));
     }
       where

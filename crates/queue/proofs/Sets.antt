@@ -2,9 +2,8 @@
 use mathlib.Core.Path.{_≡_, refl, sym, ap, ap₂, subst, _∙_}
 use mathlib.Core.Bool.{Bool, true, false, not, _&&_, _||_}
 use Prim.Native.Nat.{ℕ, zero, suc, _+_, _-_, _*_, _/_, _%_, _^_, _<_, _≤_}
-use native.Mathlib.Nat.{mod-lt, mul-mod-left, pow-suc, zero-lt-suc, div-eq-of-lt, zero-div}
+use native.Mathlib.Nat.{mul-mod-left, pow-suc, div-eq-of-lt, zero-div}
 use native.Mathlib.Omega.{arith}
-use native.Mathlib.Numerals.{add-one}
 use native.Mathlib.Decide.{decLt, ℕ-discrete}
 use borrow.Author.Tests.{eq-eqb, ne-eqb, eqb-true, lt-ltb, le-ltb}
 use lib.Dec.{eqb, ltb}
@@ -73,7 +72,7 @@ bit-one e k = go (decLt k e) (decLt e k)
         let s : k ≡ e = omega arith in
         ap (λ (n : ℕ). eqb (2 ^ e / 2 ^ n % 2) 1) s ∙ ap (λ (n : ℕ). eqb n 1) (pow-same e) ∙ sym (eq-eqb k e s)
 
-or-swap : (a b : Bool) → (a || b) ≡ (b || a)
+pub or-swap : (a b : Bool) → (a || b) ≡ (b || a)
 or-swap true true = refl
 or-swap true false = refl
 or-swap false true = refl

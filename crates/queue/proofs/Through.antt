@@ -6,7 +6,7 @@ use Prim.Native.Nat.{ℕ, zero, suc, _+_, _<_, _≤_}
 use native.Mathlib.Omega.{arith}
 use native.Mathlib.Numerals.{add-one}
 use lib.Dec.{lit<}
-use lib.ListN.{getD, length}
+use lib.ListN.{getD}
 use Rattle.numbers.specs.Choice.{pick}
 use Rattle.opcodes.specs.declared.Instruction.{Instruction}
 use Rattle.opcodes.specs.declared.Decoded.{Decoded}
@@ -17,10 +17,9 @@ use Rattle.opcodes.specs.Decoding.{decodedOf, Decodes}
 use Rattle.opcodes.proofs.Passed.{decoded-passed}
 use Rattle.machine.specs.Kind.{kindOf, isCompare, isIota}
 use Rattle.machine.specs.Run.{Run, run, gathered}
-use Rattle.machine.specs.Step.{operated, received, written, worked, elementStep, notes, registerBit}
+use Rattle.machine.specs.Step.{operated, received, written, worked, elementStep}
 use Rattle.machine.specs.Iota.{iotaStep}
 use Rattle.machine.specs.Instruction.{stepOf, stepsBelow, stepCount, wholeOf}
-use Rattle.machine.specs.declared.Progress.{Progress}
 use Rattle.queue.specs.Queue.{Queue, size, instructionOr, instructionAt, scalarAt, straight}
 use Rattle.queue.specs.Reply.{instructionFrom}
 use Rattle.queue.specs.Tables.{Below, decodedAt}

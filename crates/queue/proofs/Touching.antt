@@ -1,8 +1,8 @@
 -- What an instruction touches, as the code works it out. Assumes nothing.
-use mathlib.Core.Path.{_≡_, refl, sym, ap, ap₂, _∙_}
+use mathlib.Core.Path.{_≡_, sym, ap, ap₂, _∙_}
 use mathlib.Core.Bool.{Bool, true, false, not, _&&_, _||_}
 use mathlib.Core.List.{List}
-use Prim.Native.Nat.{ℕ, _+_, _*_, _/_, _%_, _^_, _<_, _≤_}
+use Prim.Native.Nat.{ℕ, _+_, _*_, _%_, _^_, _<_}
 use native.Mathlib.Omega.{arith}
 use borrow.Author.Tests.{ltb-true}
 use lib.Dec.{eqb, ltb}
@@ -14,7 +14,7 @@ use Rattle.numbers.proofs.BitLaws.{one-shifted}
 use Rattle.opcodes.specs.declared.Instruction.{Instruction}
 use Rattle.machine.specs.Kind.{kindOf, isCompare, isMerge, isIota}
 use Rattle.queue.specs.Touch.{position, element, isConvert}
-use Rattle.queue.specs.Tables.{joined, joinedIf, within, sources, target, bindsBy, countBy, isStepBy, Marks, marks, has-come, seenBy, mayCome, marked}
+use Rattle.queue.specs.Tables.{joined, joinedIf, within, sources, target, bindsBy, countBy, isStepBy, Marks, marks, hasCome, seenBy, mayCome, marked}
 use Rattle.queue.proofs.Accepting.{both}
 
 -- a shift in the code is a power
@@ -64,14 +64,14 @@ module _ (n vlr iotas x : ℕ) where
   module _ (bound : List ℕ) (m : Marks) where
     pub may-no-step : isStepBy n vlr iotas x ≡ false → false ≡ mayCome n vlr iotas bound m x
     unfolding mayCome
-    may-no-step e = sym (ap (λ (t : Bool). t && (not (has-come (m .came) x) && within (getD bound (position x) 0) (seenBy iotas m x))) e)
+    may-no-step e = sym (ap (λ (t : Bool). t && (not (hasCome (m .came) x) && within (getD bound (position x) 0) (seenBy iotas m x))) e)
 
     module _ (a-step : isStepBy n vlr iotas x ≡ true) where
-      pub may-repeat : has-come (m .came) x ≡ true → false ≡ mayCome n vlr iotas bound m x
+      pub may-repeat : hasCome (m .came) x ≡ true → false ≡ mayCome n vlr iotas bound m x
       unfolding mayCome
       may-repeat e = sym (ap₂ (λ (t u : Bool). t && (not u && within (getD bound (position x) 0) (seenBy iotas m x))) a-step e)
 
-      pub may-ready : has-come (m .came) x ≡ false → (r : Bool) (s : ℕ) → s ≡ seenBy iotas m x → r ≡ within (getD bound (position x) 0) s → r ≡ mayCome n vlr iotas bound m x
+      pub may-ready : hasCome (m .came) x ≡ false → (r : Bool) (s : ℕ) → s ≡ seenBy iotas m x → r ≡ within (getD bound (position x) 0) s → r ≡ mayCome n vlr iotas bound m x
       unfolding mayCome
       may-ready e r s g h =
           h ∙ ap (within (getD bound (position x) 0)) g

@@ -1,11 +1,11 @@
 -- The tables of a queue give the verdict of its own definitions. Assumes nothing.
-use mathlib.Core.Path.{_≡_, refl, sym, ap, ap₂, subst, _∙_}
+use mathlib.Core.Path.{_≡_, refl, sym, ap, ap₂, _∙_}
 use mathlib.Core.Bool.{Bool, true, false, not, _&&_, _||_}
 use mathlib.Core.List.{List}
-use Prim.Native.Nat.{ℕ, _+_, _*_, _^_, _<_, _≤_}
+use Prim.Native.Nat.{ℕ, _*_, _^_, _<_, _≤_}
 use native.Mathlib.Omega.{arith}
 use borrow.Author.Tests.{ne-eqb, lt-ltb, ltb-true}
-use lib.Dec.{T, eqb, ltb}
+use lib.Dec.{eqb, ltb}
 use lib.ListN.{getD}
 use Rattle.numbers.specs.Choice.{pick}
 use Rattle.numbers.specs.Bits.{bit}
@@ -14,23 +14,17 @@ use Rattle.machine.specs.Kind.{kindOf, isCompare, isMerge, isIota}
 use Rattle.machine.specs.Instruction.{stepCount}
 use Rattle.queue.specs.Queue.{Queue, size, instructionAt}
 use Rattle.queue.specs.Order.{Mem, check}
-use Rattle.queue.specs.Touch.{position, element, isConvert, isStep, passing, stepsOf, mustFollow}
+use Rattle.queue.specs.Touch.{position, element, isConvert, isStep, stepsOf, mustFollow}
 use Rattle.queue.specs.Binds.{readsRegister, readsMask, feeds, sameTarget, binds, bound as boundOf}
 use Rattle.queue.specs.Run.{verdictOf}
 use Rattle.queue.specs.Tables.{joinedIf, sources, target, decodedAt, Below, bindsBy, countBy, isStepBy, stepsBy, followsBy, verdictBy}
 use Rattle.queue.proofs.SameCheck.{passing-same, check-same}
 use Rattle.queue.proofs.Steps.{step-of, step-position, must-follow}
-use Rattle.queue.proofs.Sets.{bit-one, bit-joined-if}
+use Rattle.queue.proofs.Sets.{or-swap, bit-one, bit-joined-if}
 use Rattle.queue.proofs.Accepting.{both}
 use Rattle.queue.specs.declared.Verdict.{Verdict}
 
 -- ---- two instructions bind each other exactly where their tables say so
-or-swap : (a b : Bool) → (a || b) ≡ (b || a)
-or-swap true true = refl
-or-swap true false = refl
-or-swap false true = refl
-or-swap false false = refl
-
 none : (a : Bool) → (a && false) ≡ false
 none true = refl
 none false = refl

@@ -2,7 +2,7 @@
 use mathlib.Core.Bool.{false}
 use mathlib.Core.List.{List}
 use Prim.Native.Nat.{ℕ}
-use Rattle.state.specs.Answer.{Answer, answer, done, reservedOpcode, reservedControlWord, disabled, outOfRange}
+use Rattle.state.specs.Answer.{Answer, done, reservedOpcode, reservedControlWord, disabled, outOfRange}
 use Rattle.opcodes.specs.declared.Instruction.{Instruction}
 use Rattle.opcodes.specs.declared.Work.the-variants.{AddLongword}
 use Rattle.opcodes.specs.ControlWord.{instructionOf}
@@ -25,6 +25,6 @@ replyAnswer (reply.OrderRefused place) = orderRefused place
 abbrev pub queue : List ℕ → List ℕ → List ℕ → Queue
 queue o c s = record { opcodes = o; controlWords = c; scalars = s }
 
--- the instruction of an opcode and a control word; for refused ones, the other
+-- the instruction of an opcode and a control word; for refused ones, the other. `instructionAt` has it at a position
 abbrev pub instructionFrom : ℕ → ℕ → Instruction
 instructionFrom o c = instructionOr (instructionOf AddLongword false 0) (decodedOf o c)

@@ -3,7 +3,6 @@
 use mathlib.Core.List.{List}
 use Prim.Native.Nat.{ℕ}
 use Rattle.numbers.specs.Choice.{pick}
-use Rattle.state.specs.declared.Control.{Control}
 use Rattle.state.specs.Answer.{Answer, answer, done}
 use Rattle.state.specs.State.{State}
 use Rattle.machine.specs.Run.{begun, finished}

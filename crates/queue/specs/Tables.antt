@@ -2,7 +2,7 @@
 -- A set of positions is a number whose bit k says that position k is in it. proofs/Tables.antt proves that this is the check of specs/Order.antt.
 use mathlib.Core.Bool.{Bool, not, _&&_, _||_}
 use mathlib.Core.List.{List}
-use Prim.Native.Nat.{ℕ, _+_, _*_, _-_, _/_, _%_, _^_, _<_}
+use Prim.Native.Nat.{ℕ, _+_, _*_, _^_, _<_}
 use lib.Dec.{ltb, eqb}
 use lib.Bits.{bitOr}
 use lib.ListN.{getD, set}
@@ -91,8 +91,8 @@ abbrev pub marks : List ℕ → List ℕ → ℕ → Marks
 marks came gone full = record { came = came; gone = gone; full = full }
 
 -- the step x has come
-abbrev pub has-come : List ℕ → ℕ → Bool
-has-come came x = bit (getD came (element x) 0) (position x)
+abbrev pub hasCome : List ℕ → ℕ → Bool
+hasCome came x = bit (getD came (element x) 0) (position x)
 
 -- the positions that hold no step of x's element up any more: IOTA waits for every step of a position
 abbrev pub seenBy : ℕ → Marks → ℕ → ℕ
@@ -100,7 +100,7 @@ seenBy iotas m x = pick (bit iotas (position x)) (m .full) (bitOr (getD (m .came
 
 unfoldable pub mayCome : ℕ → ℕ → ℕ → List ℕ → Marks → ℕ → Bool
 mayCome n vlr iotas bound m x =
-    isStepBy n vlr iotas x && (not (has-come (m .came) x) && within (getD bound (position x) 0) (seenBy iotas m x))
+    isStepBy n vlr iotas x && (not (hasCome (m .came) x) && within (getD bound (position x) 0) (seenBy iotas m x))
 
 -- the step x comes
 unfoldable pub marked : ℕ → ℕ → ℕ → Marks → Marks

@@ -1,8 +1,6 @@
 -- `bound_at` meets its contract: after k turns the set has the positions below k that bind. Assumes nothing.
 use borrow.Author.Needs.{needs}
-use mathlib.Core.Path.{_≡_, refl, sym, ap, _∙_}
-use mathlib.Core.Bool.{Bool, _&&_}
-use Prim.Native.Nat.{ℕ, _≤_, _<_, _-_}
+use Prim.Native.Nat.{ℕ, _≤_, _-_}
 use native.Mathlib.Omega.{arith}
 use Rattle.queue.specs.Tables.{bindsBy}
 use Rattle.queue.proofs.Sets.{Built, built-none, built-turn, built-all}

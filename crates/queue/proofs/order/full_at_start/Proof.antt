@@ -1,6 +1,5 @@
 -- `full_at_start` meets its contract. Assumes nothing.
 use borrow.Author.Tests.{eq-eqb, ne-eqb}
-use borrow.Author.Needs.{needs}
 use Rattle.queue.proofs.order.full_at_start.Statement.{statement}
 use Rattle.queue.proofs.order.full_at_start.Tie as tie
 

@@ -1,9 +1,6 @@
 -- `iotas` meets its contract: after k turns the set has the IOTAs among the first k. Assumes nothing.
 use borrow.Author.Needs.{needs}
-use mathlib.Core.Path.{_≡_, refl, sym, ap, _∙_}
-use mathlib.Core.Bool.{Bool, _&&_}
-use Prim.Native.Nat.{ℕ, _≤_, _<_, _-_}
-use native.Mathlib.Omega.{arith}
+use Prim.Native.Nat.{ℕ, _≤_, _-_}
 use Rattle.machine.specs.Kind.{kindOf, isIota}
 use Rattle.queue.specs.Tables.{decodedAt}
 use Rattle.queue.proofs.Sets.{Built, built-none, built-turn, built-all}

@@ -1,5 +1,4 @@
 -- `join` meets its contract. Assumes nothing.
-use mathlib.Core.Path.{_≡_, sym, ap, _∙_}
 use borrow.Author.Needs.{needs}
 use Rattle.queue.proofs.Touching.{joins}
 use Rattle.queue.proofs.order.join.Statement.{statement}

@@ -1,8 +1,7 @@
 -- `targets_of` meets its contract: after k turns the first k entries are right. Assumes nothing.
 use borrow.Author.Needs.{needs}
-use mathlib.Core.Path.{_≡_, refl, sym, ap, _∙_}
-use mathlib.Core.Bool.{Bool, _&&_}
-use Prim.Native.Nat.{ℕ, _≤_, _<_, _-_}
+use mathlib.Core.Path.{_≡_, refl}
+use Prim.Native.Nat.{ℕ, _≤_, _-_}
 use native.Mathlib.Omega.{arith}
 use Rattle.queue.specs.Tables.{decodedAt, target}
 use Rattle.queue.proofs.Filling.{Filled, fill-none, fill-more}
