@@ -70,7 +70,7 @@ resultOf LoadQuadword exc field matches a b c = quiet c
 resultOf StoreLongword exc field matches a b c = quiet c
 resultOf StoreQuadword exc field matches a b c = quiet c
 
--- the work of each number of the opcode table
+-- the work of each number of the opcode table; a number of none stands for one that leaves an element as it was
 unfoldable pub coded : ℕ → Work
 coded n =
     getD

@@ -1,5 +1,5 @@
--- Document 01, "Settled examples": the numbered ones, each computed from the definitions that the promises cite, as a call of one instruction. Assumes
--- nothing.
+-- Document 01, "Settled examples": the numbered ones, each computed from the definitions that the promises cite: 1 to 11 as calls of one instruction, 12
+-- as a queue by a list. Assumes nothing.
 use mathlib.Core.Path.{_≡_, refl}
 use mathlib.Core.List.{List, [], _∷_, _++_}
 use Prim.Native.Nat.{ℕ}
@@ -129,20 +129,25 @@ pub example-9-negative-truncated : worksOut 0xEC 0x2423 0 0xD000 ≡ gives 0 0xD
 unfolding executedOf accepted instructionOf wholeOf stepsBelow stepOf elementStep operated worked received resultOf written gathered ended notes inRange opcodeOf refused controlWordOf kindOf delivered rounded size
 example-9-negative-truncated = refl
 
--- 10. IOTA, VLR 4, VMR B, stride 8: MTF 1 gives 0, 8, 24, VCR 3; MTF 0 gives 16, VCR 1. Elements from VCR on keep
+-- 10. IOTA, VLR 4, VMR B, stride 8: MTF 1 gives 0, 8, 24, VCR 3; MTF 0 gives 16, VCR 1
 abbrev counted : ℕ → Control
 counted vcr = record { vlr = 4; vmr = 0xB; vcr = vcr; vaer = 0; vpsr = 1 }
 
-abbrev sevens : List ℕ
-sevens = set (set (set (set zeros 192 7) 193 7) 194 7) 195 7
-
-pub example-10-true : executedOf (state sevens (counted 0)) 0xED 0x6003 8 0 0 [] 0 ≡ outcome (done 0) (state (set (set (set sevens 192 0) 193 8) 194 24) (counted 3)) []
+pub example-10-true : executedOf (state zeros (counted 0)) 0xED 0x6003 8 0 0 [] 0 ≡ outcome (done 0) (state (set (set zeros 193 8) 194 24) (counted 3)) []
 unfolding executedOf accepted instructionOf wholeOf stepsBelow stepOf iotaStep walked turned matching ended inRange opcodeOf refused controlWordOf kindOf
 example-10-true = refl
 
-pub example-10-false : executedOf (state sevens (counted 0)) 0xED 0x2003 8 0 0 [] 0 ≡ outcome (done 0) (state (set sevens 192 16) (counted 1)) []
+pub example-10-false : executedOf (state zeros (counted 0)) 0xED 0x2003 8 0 0 [] 0 ≡ outcome (done 0) (state (set zeros 192 16) (counted 1)) []
 unfolding executedOf accepted instructionOf wholeOf stepsBelow stepOf iotaStep walked turned matching ended inRange opcodeOf refused controlWordOf kindOf
 example-10-false = refl
+
+-- the same where Vc is not zero: elements from VCR on keep
+abbrev sevens : List ℕ
+sevens = set (set (set (set zeros 192 7) 193 7) 194 7) 195 7
+
+pub example-10-kept : executedOf (state sevens (counted 0)) 0xED 0x6003 8 0 0 [] 0 ≡ outcome (done 0) (state (set (set (set sevens 192 0) 193 8) 194 24) (counted 3)) []
+unfolding executedOf accepted instructionOf wholeOf stepsBelow stepOf iotaStep walked turned matching ended inRange opcodeOf refused controlWordOf kindOf
+example-10-kept = refl
 
 -- 11. base FFFFFFFC, stride 4: element 1 is at 0. A longword load of element 1 alone, from a window at 0
 abbrev second : Control

@@ -1,4 +1,4 @@
--- What the loops over a register's elements make, in the terms that they work with: the elements (or the mask) and the notes gathered. proofs/ shows that
+-- What the loops over a register's elements make, in the terms that they work with: the elements (or the mask) and the notes gathered. No public promise cites this; proofs/ shows that
 -- this is what the instruction's steps make.
 use mathlib.Core.Bool.{Bool, true, not, _||_}
 use mathlib.Core.List.{List, [], _∷_, _++_}

@@ -25,3 +25,4 @@ pub mod CheckLoop
 pub mod Marking
 pub mod RunLoop
 pub mod Verdicts
+pub mod DemandThree

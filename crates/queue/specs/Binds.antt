@@ -1,4 +1,4 @@
--- Which steps bind each other, from the kinds, forms and register numbers of their two instructions alone. The check of a list computes this; that it
+-- Which steps bind each other, from the kinds, forms and register numbers of their two instructions alone. The check of a list goes by this (specs/Tables.antt); that it
 -- says the same as the places of specs/Touch.antt is proved in proofs/Binding.antt.
 use mathlib.Core.Bool.{Bool, not, _&&_, _||_}
 use Prim.Native.Nat.{ℕ}

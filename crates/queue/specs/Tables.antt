@@ -1,5 +1,5 @@
 -- What the check of an order list computes with: numbers and sets of positions that are made once for a queue, and what has come of each position.
--- A set of positions is a number whose bit k says that position k is in it. proofs/Tables.antt proves that this is the check of specs/Order.antt.
+-- A set of positions is a number whose bit k says that position k is in it. No public promise cites this; proofs/Verdicts.antt proves that it is the check of specs/Order.antt.
 use mathlib.Core.Bool.{Bool, not, _&&_, _||_}
 use mathlib.Core.List.{List}
 use Prim.Native.Nat.{ℕ, _+_, _*_, _^_, _<_}
