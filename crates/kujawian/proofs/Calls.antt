@@ -7,10 +7,10 @@ use lib.Seq.{set-getD}
 use Rattle.state.specs.declared.Control.{Control}
 use Rattle.state.specs.Answer.{Answer, answer}
 use Rattle.state.specs.State.{State, state}
-use Rattle.control.specs.Moves.{Outcome}
-use Rattle.execute.specs.Execute.{Outcome as Executed, outcome}
+use Rattle.control.specs.Moves.{Outcome, outcome}
+use Rattle.execute.specs.Execute.{Outcome as Executed, outcome as executedWith}
 use Rattle.queue.specs.Run.{Outcome as Ran, outcome as ranWith}
-use Rattle.kujawian.specs.Face.{controlOf, controlInto, written, left, ran, executed}
+use Rattle.kujawian.specs.Face.{controlOf, controlInto, stateOf, written, left, ran, executed}
 
 -- storing what was read changes nothing: a refusal, after which the record is the one handed over, leaves the five numbers as they were
 pub stored-back : (l : List ℕ) → controlInto l (controlOf l) ≡ l
@@ -55,10 +55,23 @@ pub runs : (call : Control → Ran) (l : List ℕ) (c : Control) → c ≡ contr
 runs call l c taken after elements next n b a e s g = leaves (λ (k : Control). ran (call k)) l c taken after elements next n b a (ap ran e) s g
 
 -- one instruction
-pub executes : (call : Control → Executed) (l : List ℕ) (c : Control) → c ≡ controlOf l → (after elements window : List ℕ) (next : Control) (n b : ℕ) (a : Answer) → outcome a (state elements next) window ≡ call c
+pub executes : (call : Control → Executed) (l : List ℕ) (c : Control) → c ≡ controlOf l → (after elements window : List ℕ) (next : Control) (n b : ℕ) (a : Answer) → executedWith a (state elements next) window ≡ call c
     → after ≡ controlInto l next → answer n b ≡ a → (answer n b, elements, after, window) ≡ executed l (call (controlOf l))
 unfolding executed
 executes call l c taken after elements window next n b a e s g =
     ap (λ (x : Answer). (x, elements, after, window)) g
     ∙ ap (λ (m : List ℕ). (a, elements, m, window)) s
     ∙ ap (executed l) (e ∙ ap call taken)
+
+-- ---- A refusal leaves the state that was handed over, by the definitions below; so nothing but *beside has changed.
+pub write-kept : (l : List ℕ) (a : Answer) → written l (outcome a (controlOf l)) ≡ (a, l)
+unfolding written
+write-kept l a = ap (λ (m : List ℕ). (a, m)) (stored-back l)
+
+pub state-kept : (l elements : List ℕ) (a : Answer) → left l (a, stateOf elements l) ≡ (a, elements, l)
+unfolding left
+state-kept l elements a = ap (λ (m : List ℕ). (a, elements, m)) (stored-back l)
+
+pub execute-kept : (l elements window : List ℕ) (a : Answer) → executed l (executedWith a (stateOf elements l) window) ≡ (a, elements, l, window)
+unfolding executed
+execute-kept l elements window a = ap (λ (m : List ℕ). (a, elements, m, window)) (stored-back l)

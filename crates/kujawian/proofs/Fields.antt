@@ -10,14 +10,14 @@ use Rattle.numbers.specs.Choice.{pick}
 use Rattle.numbers.specs.Halves.{low}
 use Rattle.numbers.proofs.Tests.{and-right, pick-true, pick-false}
 use Rattle.state.specs.declared.Control.{Control}
-use Rattle.state.specs.Answer.{Answer, done, outOfRange}
+use Rattle.state.specs.Answer.{Answer, done, outOfRange, noSuchField}
 use Rattle.state.specs.State.{State, state, inRange}
 use Rattle.state.specs.Elements.{at}
 use Rattle.floating.specs.declared.Reading.{Reading}
 use Rattle.floating.specs.Reading.{kindOf, bitsOf}
 use Rattle.panel.specs.declared.Panel.{Panel}
 use Rattle.panel.specs.declared.Panel.the-variants as panel
-use Rattle.panel.specs.Panel.{noSuchField, isField, fieldAnswer, panelAnswer, kindShown, bitsShown, ShownAs, Holds, Answered}
+use Rattle.panel.specs.Panel.{isField, fieldAnswer, panelAnswer, kindShown, bitsShown, ShownAs, Holds, Answered}
 use Rattle.kujawian.specs.Face.{controlOf, fieldRead}
 
 -- what is shown, as numbers

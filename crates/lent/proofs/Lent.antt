@@ -1,5 +1,7 @@
--- A write call on a record that is lent: `pub fn write_x(c: &mut Control, value: u32) -> Move { let m = control::write_x(*c, value); *c = m.control; m.answer }`, one walk of its MIR for every `control::write_x`.
--- It is over `written`, the definition that `control::write_x` meets, and `g`, the key by which the MIR calls it. A function's own proof hands over its names, and antt compares its contract and its MIR with `clauses` and `function` here.
+-- A write call on a record that is lent: one walk of its MIR for every `control::write_x`. The call is
+--     pub fn write_x(control: &mut Control, value: u32) -> Write { let after = control::write_x(*control, value); *control = after.control; after.answer }
+-- It is over `written`, the definition that `control::write_x` meets; `Ensures`, what the call promises, which must follow from that; and `g`, the key by which the MIR calls `control::write_x`. It names no field of the record.
+-- A function's own proof hands over its names, and antt compares its MIR with `function` here.
 -- The borrow is opened, the record is copied out and passed on by value, the record that comes back is stored whole, and the borrow is closed at it.
 -- Assumes nothing.
 use mathlib.Core.Path.{_≡_, refl, ap}
@@ -41,7 +43,7 @@ use denote.Exit.{yes}
 use Rattle.state.specs.declared.Control.{Control}
 use Rattle.control.specs.declared.Write.{Write}
 use Rattle.control.specs.declared.Written.{Written}
-use Rattle.control.specs.Moves.{Outcome, outcome, outcomeOf, writeAnswer}
+use Rattle.control.specs.Moves.{Outcome, outcomeOf}
 use Rattle.state.proofs.Control as T
 use Rattle.state.proofs.Control.Laws as T′
 use Rattle.control.proofs.Write as N
@@ -71,7 +73,7 @@ stayed = (stay-ref (0 ∷ []) tt (plain (λ _. T.the-row)), (stay-none (λ _. u3
 abbrev pub vals : Control → List Val
 vals = LL.vals T.the-type T′.the-laws
 
--- a goal that nothing is asked for
+-- what holds of nothing holds beside any goal
 beside : {M : Type 1} (𝓤 : URA M) (P : SProp 𝓤) {E : SProp 𝓤} → ent 𝓤 (emp 𝓤) E → ent 𝓤 P (sep 𝓤 P E)
 beside 𝓤 P {E} e = via 𝓤 _ (emp∗ 𝓤 P) (via 𝓤 _ (monoL 𝓤 P e) (comm∗ 𝓤 E P))
 
@@ -116,10 +118,7 @@ module _ (written : Control → ℕ → Outcome) where
     clauses κs a = record { ghost = Unit {0}; requires = λ _. emp 𝓤; ensures = λ _ r end. Ensures κs a r end }
 
     module _ (H : Heap 𝓤) (A : Atoms 𝓤) (W : Given 𝓤 H A) (κ : Lft) (q : Share) (b o : ℕ) (γ : GName) (h : Control) (n : ℕ) (n-fits : n < 2 ^ 32) where
-      abbrev Arg : Type 0
-      Arg = RefT Control × (ℕ × Unit {0})
-
-      abbrev x : Arg
+      abbrev x : Lent
       x = (record { ptr = (b, o); name = γ; now = h }, (n, tt))
 
       abbrev at : List Val × (List Val × Unit {0})

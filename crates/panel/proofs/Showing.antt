@@ -9,13 +9,13 @@ use borrow.Author.Tests.{not-true, not-false, ltb-true}
 use Rattle.numbers.specs.Halves.{low}
 use Rattle.numbers.proofs.Tests.{and-left, and-right, pick-true, pick-false}
 use Rattle.state.specs.State.{State, inRange, placeOf}
-use Rattle.state.specs.Answer.{done, outOfRange}
+use Rattle.state.specs.Answer.{done, outOfRange, noSuchField}
 use Rattle.state.specs.Elements.{at}
 use Rattle.floating.specs.declared.Reading.{Reading}
 use Rattle.floating.specs.Format.{F}
 use Rattle.floating.specs.Reading.{Shows, longwordReading, bitsOf}
 use Rattle.panel.specs.declared.Panel.the-variants as panel
-use Rattle.panel.specs.Panel.{noSuchField, isField, fieldAnswer, ShownAs, Answered}
+use Rattle.panel.specs.Panel.{isField, fieldAnswer, ShownAs, Answered}
 
 -- kind 0 shows F, kind 1 a longword
 pub as-floating : (kind word : ℕ) (r : Reading) → kind ≡ 0 → Shows F word r → ShownAs kind word r

@@ -6,7 +6,7 @@ use lib.Dec.{ltb, eqb}
 use Rattle.numbers.specs.Choice.{pick}
 use Rattle.numbers.specs.Halves.{low}
 use Rattle.state.specs.declared.Control.{Control}
-use Rattle.state.specs.Answer.{Answer, answer, done, outOfRange}
+use Rattle.state.specs.Answer.{Answer, done, outOfRange, noSuchField}
 use Rattle.state.specs.State.{State, inRange}
 use Rattle.state.specs.Elements.{at}
 use Rattle.floating.specs.declared.Reading.{Reading}
@@ -14,10 +14,6 @@ use Rattle.floating.specs.Format.{F, isReserved}
 use Rattle.floating.specs.Reading.{Shows, shownBits, longwordReading, bitsOf}
 use Rattle.panel.specs.declared.Panel.{Panel}
 use Rattle.panel.specs.declared.Panel.the-variants as panel
-
--- no such field
-abbrev pub noSuchField : Answer
-noSuchField = answer 13 0
 
 -- the number of each answer, and what stands beside it: what was read stands in the reading
 abbrev pub panelAnswer : Panel → Answer

@@ -38,3 +38,6 @@ valueRefused = answer 11 0
 
 abbrev pub outOfRange : Answer
 outOfRange = answer 12 0
+
+abbrev pub noSuchField : Answer
+noSuchField = answer 13 0

@@ -19,5 +19,8 @@ unfolding code.routine tablesOf
 write-vlr-spec 𝓤 H 𝓜 𝓖 𝓡 =
     entered 𝓤 H (tripleOf 𝓤 H (𝓖 .A) f.signature (f.spec 𝓤 H (𝓖 .A) (𝓜 .mem) (𝓡 .run)))
     (tables 𝓤 H 𝓜 𝓡 code.env .C) (tables 𝓤 H 𝓜 𝓡 code.env .Λ) #write code.function (code.unfolded 𝓤 H 𝓜 𝓡)
-    (meets written 𝓤 (λ κs a r end. f.clauses 𝓤 H (𝓖 .A) (𝓜 .mem) (𝓡 .run) κs a .ensures tt r end) (λ κs x n w e. factI 𝓤 _ (emp 𝓤) e) H (𝓖 .A) (givenOf 𝓤 H 𝓜 𝓖) (tablesOf 𝓤 H 𝓜 (tables 𝓤 H 𝓜 𝓡 code.env)) by-value-def.name
+    (meets written 𝓤 (λ κs a. f.clauses 𝓤 H (𝓖 .A) (𝓜 .mem) (𝓡 .run) κs a .ensures tt)
+    -- what `control::write_vlr` says of the record that comes back is what is promised of the record at exit
+    (λ κs x n w e. factI 𝓤 _ (emp 𝓤) e)
+    H (𝓖 .A) (givenOf 𝓤 H 𝓜 𝓖) (tablesOf 𝓤 H 𝓜 (tables 𝓤 H 𝓜 𝓡 code.env)) by-value-def.name
     (cited 𝓤 H (ByValue written 𝓤 H (𝓖 .A)) 𝓜 𝓡 code.env by-value-def.name by-value-def.routine code.calls-control·write-vlr (by-value-thm.met 𝓤 H 𝓜 𝓖 𝓡)))

@@ -1,0 +1,14 @@
+-- `well_formed` meets its contract. Assumes nothing.
+use Rattle.running.proofs.Queues.{formed}
+use borrow.Author.Needs.{needs}
+use Rattle.running.proofs.records.well_formed.Statement.{statement}
+use Rattle.running.proofs.records.well_formed.Tie as tie
+
+all-unfilled-requires : tie.Need-all-unfilled-requires
+all-unfilled-requires c κs = search needs
+
+returns : tie.Need-returns
+returns c = formed _ _ (c .all-unfilled .ensures)
+
+pub well-formed-spec : {M : Type 1} → statement M
+well-formed-spec = tie.close (tie.spec all-unfilled-requires returns)

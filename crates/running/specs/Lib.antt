@@ -1,0 +1,3 @@
+-- What the runner reads and prints.
+pub mod Records
+pub mod Runner
