@@ -12,6 +12,7 @@ use independent::machine::*;
 use independent::queue::{accept, run, run_order, Queue};
 use independent::random::Random;
 use independent::saved::{load, reading, save, Reading};
+use independent::vectors::{check, directory, instruction_of, Arithmetic, Result32, F_TABLES, L_TABLES};
 use std::collections::BTreeMap;
 use std::process::ExitCode;
 
@@ -465,6 +466,60 @@ fn numbers_of(call: &str) -> &'static [u32] {
     }
 }
 
+/// The outside vectors through `kuj_execute`: V1[0] and V2[0] in, V3[0] or VMR<0> out.
+struct Executed;
+
+impl Arithmetic for Executed {
+    fn work(&self, table: &str, a: u32, b: u32, exc: bool, relation: u32) -> Result32 {
+        let (opcode, va) = instruction_of(table);
+        let compare = table.starts_with("CMP");
+        let vc = if compare { relation as u16 } else { 3 };
+        let cntrl = u16::from(exc) << 13 | va << 8 | 2 << 4 | vc;
+        let mut elements = vec![0u64; 1024];
+        elements[64] = a.into();
+        elements[128] = b.into();
+        let mut control = [1u64, 0, 0, 0, 1];
+        let (mut beside, mut window) = (0u64, [0u8; 1]);
+        // SAFETY: 1,024 elements, 5 control numbers, an empty window, one number beside.
+        let number = unsafe {
+            kuj_execute(elements.as_mut_ptr(), control.as_mut_ptr(), opcode, cntrl, 0, 0, 0, window.as_mut_ptr(), 0, 0, &mut beside)
+        };
+        assert_eq!((number, beside), (0, 0), "{table} is accepted");
+        let value = if compare { control[1] as u32 } else { elements[192] as u32 };
+        (value, control[3] as u32 & 0x3F)
+    }
+}
+
+/// All 256 opcodes with all 65,536 control words, at VLR 0 and with an empty window: which number
+/// each gets.
+fn compare_acceptance(report: &mut Report) {
+    let mut elements = vec![0u64; 1024];
+    let mut window = [0u8; 1];
+    for opcode in 0..=255u8 {
+        for cntrl in 0..=65_535u16 {
+            let mut control = [0u64, 0, 0, 0, 1];
+            let mut beside = 99u64;
+            // SAFETY: as above.
+            let number = unsafe {
+                kuj_execute(elements.as_mut_ptr(), control.as_mut_ptr(), opcode, cntrl, 0, 0, 0, window.as_mut_ptr(), 0, 0, &mut beside)
+            };
+            let instruction = Instruction { opcode, control_word: cntrl, scalar: 0 };
+            let expected = match work_of(opcode) {
+                None => RESERVED_OPCODE,
+                Some(work) if control_word_is_reserved(&fields(work, &instruction)) => RESERVED_CONTROL_WORD,
+                Some(_) => 0,
+            };
+            if (number, beside) != (expected, 0) {
+                report.differences += 1;
+                if report.differences <= 20 {
+                    println!("DIFFERS: opcode {opcode:02X}, control word {cntrl:04X}: {number} {beside}, expected {expected} 0");
+                }
+            }
+        }
+    }
+    println!("acceptance: 16777216 opcodes and control words");
+}
+
 fn main() -> ExitCode {
     let arguments: Vec<u64> =
         std::env::args().skip(1).map(|text| text.parse().expect("arguments are whole numbers")).collect();
@@ -479,6 +534,15 @@ fn main() -> ExitCode {
     compare_run_order(&mut random, cases.div_ceil(4), &mut report);
     compare_files(&mut random, cases.div_ceil(4), &mut report);
     compare_readings(&mut random, cases, &mut report);
+    compare_acceptance(&mut report);
+    for tables in [&F_TABLES[..], &L_TABLES[..]] {
+        let found = check(&directory(), tables, &Executed).expect("the outside vectors can be read");
+        for difference in found.differences.iter().take(20) {
+            println!("DIFFERS: {difference}");
+        }
+        println!("outside vectors: {} rows, {} rows of the known difference, {} differ", found.rows, found.known, found.differences.len());
+        report.differences += found.differences.len() as u64;
+    }
 
     let mut missing = 0;
     for (call, numbers) in &report.numbers {

@@ -20,25 +20,31 @@ pub trait Arithmetic {
     fn work(&self, table: &str, a: u32, b: u32, exc: bool, relation: u32) -> Result32;
 }
 
+/// The opcode of a table's work, and what stands in the control word's <11:8>: register 1, or the
+/// conversion.
+pub fn instruction_of(table: &str) -> (u8, u16) {
+    match table {
+        "ADDF" => (0x84, 1),
+        "SUBF" => (0x8C, 1),
+        "MULF" => (0xA4, 1),
+        "CMPF" => (0xC4, 1),
+        "CVTLF" => (0xEC, 1),
+        "CVTFL" => (0xEC, 4),
+        "CVTRFL" => (0xEC, 5),
+        "ADDL" => (0x80, 1),
+        "SUBL" => (0x88, 1),
+        "MULL" => (0xA0, 1),
+        "CMPL" => (0xC0, 1),
+        _ => panic!("no table {table}"),
+    }
+}
+
 /// This package's own arithmetic, taken through the machine's element work.
 pub struct Own;
 
 impl Arithmetic for Own {
     fn work(&self, table: &str, a: u32, b: u32, exc: bool, relation: u32) -> Result32 {
-        let (opcode, va) = match table {
-            "ADDF" => (0x84, 1),
-            "SUBF" => (0x8C, 1),
-            "MULF" => (0xA4, 1),
-            "CMPF" => (0xC4, 1),
-            "CVTLF" => (0xEC, 1),
-            "CVTFL" => (0xEC, 4),
-            "CVTRFL" => (0xEC, 5),
-            "ADDL" => (0x80, 1),
-            "SUBL" => (0x88, 1),
-            "MULL" => (0xA0, 1),
-            "CMPL" => (0xC0, 1),
-            _ => panic!("no table {table}"),
-        };
+        let (opcode, va) = instruction_of(table);
         let control_word = u16::from(exc) << 13 | va << 8 | 2 << 4 | relation as u16;
         let instruction = Instruction { opcode, control_word, scalar: 0 };
         let decoded = fields(work_of(opcode).expect("an accepted opcode"), &instruction);
