@@ -16,7 +16,7 @@ use Rattle.memory.specs.Move.{Moved, moved, loadStep, storeStep, movesBy
 use types.Run.{OneOf, miss}
 use denote.Enum.Declared.{tagOf}
 use Rattle.memory.proofs.Access.{the-type}
-use Rattle.memory.proofs.Rising.{alike}
+use Rattle.numbers.proofs.Rising.{alike}
 use Rattle.memory.proofs.Testing.{all-within}
 use Rattle.memory.proofs.Windows.{ends-within}
 

@@ -10,7 +10,7 @@ use Rattle.state.specs.State.{state}
 use Rattle.opcodes.specs.declared.Work.{Work}
 use Rattle.opcodes.specs.declared.Work.the-variants.{LoadLongword, LoadQuadword, StoreLongword}
 use Rattle.opcodes.specs.declared.Instruction.{Instruction}
-use Rattle.memory.specs.Rising.{rising}
+use Rattle.numbers.specs.Rising.{rising}
 use Rattle.memory.specs.Window.{allowed}
 use Rattle.memory.specs.Address.{strided, testOf, testStep}
 use Rattle.memory.specs.Move.{Moved, loadStep, storeStep, movedOf}

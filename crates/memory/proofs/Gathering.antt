@@ -9,7 +9,7 @@ use lib.Seq.{getD-set-other}
 use Rattle.numbers.specs.Choice.{pick}
 use Rattle.state.specs.State.{placeOf}
 use Rattle.state.specs.Elements.{at}
-use Rattle.memory.specs.Rising.{rising}
+use Rattle.numbers.specs.Rising.{rising}
 use Rattle.memory.specs.Address.{offsetBy}
 use Rattle.memory.specs.Move.{loadStep}
 

@@ -1,5 +1,4 @@
--- Laws of steps in rising order, of the tests, and of what is moved.
-pub mod Rising
+-- Laws of the tests, and of what is moved.
 pub mod Windows
 pub mod Filling
 pub mod Testing

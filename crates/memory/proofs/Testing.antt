@@ -12,10 +12,10 @@ use Rattle.memory.specs.declared.Test.{Test}
 use Rattle.memory.specs.declared.Test.the-variants as test
 use Rattle.memory.specs.declared.Access.{Access}
 use Rattle.memory.specs.declared.Access.the-variants as access
-use Rattle.memory.specs.Rising.{rising}
+use Rattle.numbers.specs.Rising.{rising}
 use Rattle.memory.specs.Works.{sizeOf}
 use Rattle.memory.specs.Address.{testOf, Within, verdict, saying, orElse, testStep, tested}
-use Rattle.memory.proofs.Rising.{turns, settles}
+use Rattle.numbers.proofs.Rising.{turns, settles}
 
 -- an element that is fine lies in the window
 within : (size origin end address : ℕ) → testOf size origin end address ≡ test.Fine → Within size origin end address
@@ -69,11 +69,11 @@ module _ (size origin end : ℕ) (chosen : ℕ → Bool) (address : ℕ → ℕ)
 
     pub misaligned : (n : ℕ) → i < n → t ≡ test.Misaligned → access.Misaligned i ≡ tested size origin end chosen address n
     unfolding testStep
-    misaligned n h e = settles (testStep size origin end chosen address) (access.Misaligned i) (λ k. refl) (i + 1) n access.Done (omega arith) (rw e at turn)
+    misaligned n h e = settles (testStep size origin end chosen address) (access.Misaligned i) access.Done (i + 1) n (omega arith) (λ j _ _. refl) (rw e at turn)
 
     pub outside : (n : ℕ) → i < n → t ≡ test.Outside → access.OutsideWindow i ≡ tested size origin end chosen address n
     unfolding testStep
-    outside n h e = settles (testStep size origin end chosen address) (access.OutsideWindow i) (λ k. refl) (i + 1) n access.Done (omega arith) (rw e at turn)
+    outside n h e = settles (testStep size origin end chosen address) (access.OutsideWindow i) access.Done (i + 1) n (omega arith) (λ j _ _. refl) (rw e at turn)
 
 -- the test of one element, by what its parts said
 module _ (size origin end address : ℕ) (straight : Bool) (said : straight ≡ eqb (address % size) 0) where

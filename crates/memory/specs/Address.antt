@@ -14,7 +14,7 @@ use Rattle.memory.specs.declared.Test.{Test}
 use Rattle.memory.specs.declared.Test.the-variants as test
 use Rattle.memory.specs.declared.Access.{Access}
 use Rattle.memory.specs.declared.Access.the-variants as access
-use Rattle.memory.specs.Rising.{rising}
+use Rattle.numbers.specs.Rising.{rising}
 
 -- base + i times stride, modulo 2^32
 abbrev pub strided : ℕ → ℕ → ℕ → ℕ

@@ -1,5 +1,4 @@
 -- Memory instructions: the window, the addresses and their tests, and what is moved.
-pub mod Rising
 pub mod Works
 pub mod Window
 pub mod Address

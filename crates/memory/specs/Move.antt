@@ -11,7 +11,7 @@ use Rattle.state.specs.Elements.{at}
 use Rattle.opcodes.specs.declared.Instruction.{Instruction}
 use Rattle.memory.specs.declared.Access.{Access}
 use Rattle.memory.specs.declared.Access.the-variants.{Done, WindowRefused, Misaligned, OutsideWindow}
-use Rattle.memory.specs.Rising.{rising}
+use Rattle.numbers.specs.Rising.{rising}
 use Rattle.memory.specs.Works.{isStore, isQuadword, sizeOf}
 use Rattle.memory.specs.Window.{allowed, numberAt, putAt}
 use Rattle.memory.specs.Address.{addressOf, operated, tested, accessAnswer}

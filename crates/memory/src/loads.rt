@@ -5,7 +5,7 @@ ghost use Prim.Native.Nat.{_+_, _≤_, _<_};
 ghost use lib.ListN.{length, getD, set};
 ghost use Rattle.state.specs.State.{placeOf};
 ghost use Rattle.state.specs.Elements.{at};
-ghost use Rattle.memory.specs.Rising.{rising};
+ghost use Rattle.numbers.specs.Rising.{rising};
 ghost use Rattle.memory.specs.Works.{sizeOf};
 ghost use Rattle.memory.specs.Window.{numberAt};
 ghost use Rattle.memory.specs.Address.{chosenBy, Within, AllWithin};

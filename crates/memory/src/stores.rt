@@ -3,7 +3,7 @@ ghost use mathlib.Core.Path.{_≡_};
 ghost use mathlib.Core.Bool.{true};
 ghost use Prim.Native.Nat.{_+_, _≤_, _<_};
 ghost use lib.ListN.{length, getD};
-ghost use Rattle.memory.specs.Rising.{rising};
+ghost use Rattle.numbers.specs.Rising.{rising};
 ghost use Rattle.memory.specs.Works.{sizeOf};
 ghost use Rattle.memory.specs.Window.{putAt};
 ghost use Rattle.memory.specs.Address.{chosenBy, Within, AllWithin};

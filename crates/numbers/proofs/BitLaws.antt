@@ -1,20 +1,22 @@
 -- Bits as places: what a replaced bit leaves of the others, over any width. A bit's digit is `x / 2 ^ i % 2`, as `bit` and `withoutBit` have it.
 -- Assumes nothing.
 use mathlib.Core.Path.{_≡_, refl, sym, ap, ap₂, _∙_, subst}
-use mathlib.Core.Bool.{Bool, _&&_}
+use mathlib.Core.Bool.{Bool, not, _&&_}
+use mathlib.Core.Logic.{⊎-elim}
 use Prim.Native.Nat.{ℕ, zero, suc, _+_, _-_, _*_, _/_, _%_, _^_, _≤_, _<_, max}
-use native.Mathlib.Nat.{le-trans, mod-lt, mod-le, mul-le-mul-right, div-mul-le-self, add-mul, pow-suc, one-mul, div-add-mod', div-lt-iff-lt-mul, mod-one, div-one, zero-div, add-comm}
+use native.Mathlib.Nat.{le-trans, lt-of-lt-of-le, div-eq-of-lt, mod-lt, mod-le, mul-le-mul-right, div-mul-le-self, add-mul, pow-suc, one-mul, div-add-mod', div-lt-iff-lt-mul, mod-one, div-one, zero-div, add-comm}
 use native.Mathlib.Omega.{arith}
 use native.Mathlib.Decide.{decLt}
 use native.Mathlib.Numerals.{add-one}
 use lib.Arith.{bin-ind, digits-mod, digits-div, digits-lt}
 use lib.Bits.{bitOr, bitAnd, or-shr, or-step, or-zero-l, or-add-and, and-le-r}
-use lib.Pow.{pow-pos, pow-add, split, high, low, field, mod-mod-pow, mod-pow-add, shr-shr, shr-lt, shl-exact}
+use lib.Pow.{pow-pos, pow-mono, pow-add, split, high, low, field, mod-mod-pow, mod-pow-add, shr-shr, shr-lt, shl-exact}
 use lib.Count.{ones, ones-cat}
-use lib.Dec.{lit<, eqb, eqb·suc-zero}
-use borrow.Author.Tests.{ne-eqb}
+use lib.Dec.{lit<, ltb, eqb, eqb·suc-zero}
+use borrow.Author.Tests.{ne-eqb, lt-ltb, le-ltb}
 use Rattle.numbers.specs.Bits.{bit, withBit, lowBits, complement}
 use Rattle.numbers.specs.Choice.{pick}
+use Rattle.numbers.proofs.Tests.{below-or-not}
 
 -- ---- the digits of a number
 
@@ -25,10 +27,10 @@ digit x i = x / 2 ^ i % 2
 pub digit-lt : (x i : ℕ) → digit x i < 2
 digit-lt x i = mod-lt (x / 2 ^ i) (omega arith)
 
-digit-zero : (x : ℕ) → digit x 0 ≡ x % 2
+pub digit-zero : (x : ℕ) → digit x 0 ≡ x % 2
 digit-zero x = ap (λ (n : ℕ). n % 2) (div-one x)
 
-digit-suc : (x i : ℕ) → digit (x / 2) i ≡ digit x (suc i)
+pub digit-suc : (x i : ℕ) → digit (x / 2) i ≡ digit x (suc i)
 digit-suc x i = ap (λ (n : ℕ). n % 2) (shr-shr x 1 i ∙ ap (λ (n : ℕ). x / 2 ^ n) (add-comm 1 i ∙ add-one i))
 
 -- numbers with the same digits are the same
@@ -89,7 +91,7 @@ digit-complement (suc w) x (suc i) small h =
     less p q e g = omega arith
 
 -- what holds of 0 and of 1 holds of a digit
-of-digit : (P : ℕ → Type 0) → P 0 → P 1 → (d : ℕ) → d < 2 → P d
+pub of-digit : (P : ℕ → Type 0) → P 0 → P 1 → (d : ℕ) → d < 2 → P d
 of-digit P p q zero h = p
 of-digit P p q (suc zero) h = q
 of-digit P p q (suc (suc d)) h = absurd (big h)
@@ -97,11 +99,29 @@ of-digit P p q (suc (suc d)) h = absurd (big h)
     big : suc (suc d) < 2 → ⊥
     big g = omega arith
 
+-- of the complement, each bit is turned
+pub bit-complement : (w x i : ℕ) → x < 2 ^ w → i < w → bit (complement w x) i ≡ not (bit x i)
+bit-complement w x i small h =
+    ap (λ (n : ℕ). eqb n 1) (digit-complement w x i small h)
+    ∙ of-digit (λ (d : ℕ). eqb (1 - d) 1 ≡ not (eqb d 1)) refl refl (digit x i) (digit-lt x i)
+
 -- a test of a bit, counted
 pub bit-counts : (x i : ℕ) → pick (bit x i) 1 0 ≡ digit x i
 bit-counts x i = of-digit (λ (d : ℕ). pick (eqb d 1) 1 0 ≡ d) refl refl (digit x i) (digit-lt x i)
 
+-- a test of a digit
+pub bit-is : (x i d : ℕ) → digit x i ≡ d → bit x i ≡ eqb d 1
+bit-is x i d e = ap (λ (n : ℕ). eqb n 1) e
+
 -- ---- the n lowest bits, and the ones among them
+
+-- a bit of them is one of those below n
+pub bit-below : (x n i : ℕ) → bit (lowBits x n) i ≡ (ltb i n && bit x i)
+bit-below x n i =
+    ⊎-elim
+    (λ (h : i < n). bit-is (lowBits x n) i _ (digit-mod x n i h) ∙ ap (λ (t : Bool). t && bit x i) (sym (lt-ltb i n h)))
+    (λ (h : n ≤ i). bit-is (lowBits x n) i 0 (ap (λ (m : ℕ). m % 2) (div-eq-of-lt (lt-of-lt-of-le (mod-lt x (pow-pos n)) (pow-mono h)))) ∙ ap (λ (t : Bool). t && bit x i) (sym (le-ltb i n h)))
+    (below-or-not i n)
 
 pub one-shifted : (n w : ℕ) → n < w → 1 * 2 ^ n % 2 ^ w ≡ 2 ^ n
 one-shifted n w h = shl-exact {a = 1} 1 n w (lit< tt) (omega arith) ∙ one-mul (2 ^ n)
@@ -194,18 +214,19 @@ with-bit-twice x i v w one =
     ∙ ap₂ (λ (n r : ℕ). (n * 2 + w) * 2 ^ i + r) (ap (λ (n : ℕ). n / 2) (above x i v) ∙ digits-div (x / 2 ^ i / 2) one) (below x i v)
     ∙ sym (with-bit x i w)
 
+-- two places are the same or not
+pub decEq : (a b : ℕ) → Dec (a ≡ b)
+decEq a b = go (decLt a b) (decLt b a)
+  where
+    go : Dec (a < b) → Dec (b < a) → Dec (a ≡ b)
+    go (yes h) _ = no (λ e. omega arith)
+    go (no _) (yes h) = no (λ e. omega arith)
+    go (no p) (no q) = yes (omega arith)
+
 -- two bits replaced, in either order
 pub with-bits-commute : (x i j v w : ℕ) → v < 2 → w < 2 → (i ≡ j → ⊥) → withBit (withBit x i v) j w ≡ withBit (withBit x j w) i v
 with-bits-commute x i j v w v1 w1 other = same-digits _ _ (λ k. at k (decEq k i) (decEq k j))
   where
-    decEq : (a b : ℕ) → Dec (a ≡ b)
-    decEq a b = go (decLt a b) (decLt b a)
-      where
-        go : Dec (a < b) → Dec (b < a) → Dec (a ≡ b)
-        go (yes h) _ = no (λ e. omega arith)
-        go (no _) (yes h) = no (λ e. omega arith)
-        go (no p) (no q) = yes (omega arith)
-
     at : (k : ℕ) → Dec (k ≡ i) → Dec (k ≡ j) → digit (withBit (withBit x i v) j w) k ≡ digit (withBit (withBit x j w) i v) k
     at k (yes p) (yes q) = absurd (other (sym p ∙ q))
     at k (yes p) (no q) =

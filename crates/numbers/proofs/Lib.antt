@@ -6,4 +6,6 @@ pub mod Longwords
 pub mod Over
 pub mod Places
 pub mod Relations
+pub mod Rising
+pub mod SetBits
 pub mod Tests

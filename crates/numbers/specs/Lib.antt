@@ -5,4 +5,5 @@ pub mod Choice
 pub mod Halves
 pub mod Over
 pub mod Relation
+pub mod Rising
 pub mod Signed

@@ -1,7 +1,7 @@
 // Single bits of 64.
 ghost use mathlib.Core.Path.{_≡_};
 ghost use Prim.Native.Nat.{_<_, _≤_};
-ghost use Rattle.numbers.specs.Bits.{bit as bitOf, withBit, lowBits};
+ghost use Rattle.numbers.specs.Bits.{bit as bitOf, withoutBit, withBit, lowBits, lowestOne, chosen, OnesBelow};
 
 // Bit i is one.
 pub fn bit(x: u64, i: usize) -> bool
@@ -25,4 +25,34 @@ pub fn low_bits(x: u64, n: u64) -> u64
     ensures { λ r. ⌜ r ≡ lowBits x n ⌝ }
 {
     if n < 64 { x % (1 << n) } else { x }
+}
+
+// The number of the lowest one.
+pub fn lowest(x: u64) -> usize
+    requires { ⌜ 0 < x ⌝ }
+    ensures { λ r. ⌜ r ≡ lowestOne x ⌝ }
+{
+    u64::trailing_zeros(x) as usize
+}
+
+// x with its lowest one turned to zero.
+pub fn without_lowest(x: u64) -> u64
+    requires { ⌜ 0 < x ⌝ }
+    ensures { λ r. ⌜ r ≡ withoutBit x (lowestOne x) ⌝ }
+{
+    x & (x - 1)
+}
+
+// The set of the numbers below n: all of them, or those whose bit of a mask is as asked.
+pub fn chosen_below(masked: bool, asked: bool, mask: u64, n: u64) -> u64
+    requires { ⌜ n ≤ 64 ⌝ }
+    ensures { λ r. ⌜ OnesBelow n (chosen masked asked mask) r ⌝ }
+{
+    if masked {
+        if asked {
+            return low_bits(mask, n);
+        }
+        return low_bits(!mask, n);
+    }
+    low_bits(18446744073709551615, n)
 }

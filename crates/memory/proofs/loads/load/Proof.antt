@@ -4,10 +4,10 @@ use Prim.Native.Nat.{ℕ, _≤_, _-_}
 use native.Mathlib.Omega.{arith}
 use lib.ListN.{getD}
 use borrow.Author.Needs.{needs}
-use Rattle.memory.specs.Rising.{rising}
+use Rattle.numbers.specs.Rising.{rising}
 use Rattle.memory.specs.Address.{chosenBy}
 use Rattle.memory.specs.Move.{loadStep}
-use Rattle.memory.proofs.Rising.{starts, turns, ends}
+use Rattle.numbers.proofs.Rising.{starts, turns, ends}
 use Rattle.memory.proofs.loads.load.Statement.{statement}
 use Rattle.memory.proofs.loads.load.Tie as tie
 

@@ -8,7 +8,7 @@ use Rattle.memory.specs.declared.Access.the-variants.{Done}
 use Rattle.memory.specs.Works.{sizeOf}
 use Rattle.memory.specs.Address.{chosenBy}
 use Rattle.memory.specs.Address.{tested as testedOf}
-use Rattle.memory.proofs.Rising.{starts, ends}
+use Rattle.numbers.proofs.Rising.{starts, ends}
 use Rattle.memory.proofs.Testing.{goes-on, misaligned, outside}
 use Rattle.memory.proofs.tests.tested.Statement.{statement}
 use Rattle.memory.proofs.tests.tested.Tie as tie
