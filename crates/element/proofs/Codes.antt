@@ -1,13 +1,20 @@
 -- A work's number stands for that work. Assumes nothing.
 use mathlib.Core.Path.{_≡_, refl}
-use mathlib.Core.Bool.{Bool}
+use mathlib.Core.Bool.{Bool, true, false, cond}
+use mathlib.Core.Logic.{_⊎_, inl, inr}
 use mathlib.Core.List.{List, [], _∷_}
 use Prim.Native.Nat.{ℕ, zero, suc}
 use Rattle.element.specs.declared.Out.{Out}
 use Rattle.opcodes.specs.declared.Work.{Work}
 use Rattle.opcodes.specs.declared.Work.the-variants.{AddLongword, SubtractLongword, MultiplyLongword, CompareLongword, BitSet, ExclusiveOr, BitClear, ShiftRight, ShiftLeft, AddF, SubtractF, MultiplyF, CompareF, Convert, Iota, Merge, LoadLongword, LoadQuadword, StoreLongword, StoreQuadword}
 use Rattle.opcodes.specs.WorkNumbers.{workNumber}
+use lib.Dec.{eqb}
+use Rattle.numbers.specs.Choice.{pick}
+use Rattle.numbers.specs.Halves.{low}
+use Rattle.floating.specs.Format.{F, isReserved}
+use Rattle.floating.specs.declared.Compared.{Compared}
 use Rattle.element.specs.Receives.{coded, quiet, resultOf}
+use Rattle.element.specs.Groups.{shortWork, floatingWork, compareWork}
 
 pub coded-number : (w : Work) → coded (workNumber w) ≡ w
 unfolding coded
@@ -37,32 +44,103 @@ abbrev pub NoneOf : ℕ → List ℕ → Type 0
 NoneOf n [] = Unit {0}
 NoneOf n (k ∷ ks) = NoneOf n ks × (n ≡ k → ⊥)
 
--- the numbers of the works of one element
-abbrev pub elementCodes : List ℕ
-elementCodes = 16 ∷ 14 ∷ 13 ∷ 12 ∷ 11 ∷ 10 ∷ 9 ∷ 8 ∷ 7 ∷ 6 ∷ 5 ∷ 4 ∷ 3 ∷ 2 ∷ 1 ∷ []
+-- the numbers of the short works, and of the floating works that write elements
+abbrev pub shortNumbers : List ℕ
+shortNumbers = 16 ∷ 9 ∷ 8 ∷ 7 ∷ 6 ∷ 5 ∷ 3 ∷ 2 ∷ 1 ∷ []
+
+abbrev pub floatingNumbers : List ℕ
+floatingNumbers = 14 ∷ 12 ∷ 11 ∷ 10 ∷ []
 
 -- no other number is one
-pub no-work : (n : ℕ) → NoneOf n elementCodes → (exc : Bool) (field : ℕ) (matches : Bool) (a b c : ℕ) → quiet c ≡ resultOf (coded n) exc field matches a b c
-unfolding coded resultOf
-no-work zero r exc field matches a b c = refl
-no-work (suc zero) r exc field matches a b c = absurd (r .0 .0 .0 .0 .0 .0 .0 .0 .0 .0 .0 .0 .0 .0 .1 refl)
-no-work (suc (suc zero)) r exc field matches a b c = absurd (r .0 .0 .0 .0 .0 .0 .0 .0 .0 .0 .0 .0 .0 .1 refl)
-no-work (suc (suc (suc zero))) r exc field matches a b c = absurd (r .0 .0 .0 .0 .0 .0 .0 .0 .0 .0 .0 .0 .1 refl)
-no-work (suc (suc (suc (suc zero)))) r exc field matches a b c = absurd (r .0 .0 .0 .0 .0 .0 .0 .0 .0 .0 .0 .1 refl)
-no-work (suc (suc (suc (suc (suc zero))))) r exc field matches a b c = absurd (r .0 .0 .0 .0 .0 .0 .0 .0 .0 .0 .1 refl)
-no-work (suc (suc (suc (suc (suc (suc zero)))))) r exc field matches a b c = absurd (r .0 .0 .0 .0 .0 .0 .0 .0 .0 .1 refl)
-no-work (suc (suc (suc (suc (suc (suc (suc zero))))))) r exc field matches a b c = absurd (r .0 .0 .0 .0 .0 .0 .0 .0 .1 refl)
-no-work (suc (suc (suc (suc (suc (suc (suc (suc zero)))))))) r exc field matches a b c = absurd (r .0 .0 .0 .0 .0 .0 .0 .1 refl)
-no-work (suc (suc (suc (suc (suc (suc (suc (suc (suc zero))))))))) r exc field matches a b c = absurd (r .0 .0 .0 .0 .0 .0 .1 refl)
-no-work (suc (suc (suc (suc (suc (suc (suc (suc (suc (suc zero)))))))))) r exc field matches a b c = absurd (r .0 .0 .0 .0 .0 .1 refl)
-no-work (suc (suc (suc (suc (suc (suc (suc (suc (suc (suc (suc zero))))))))))) r exc field matches a b c = absurd (r .0 .0 .0 .0 .1 refl)
-no-work (suc (suc (suc (suc (suc (suc (suc (suc (suc (suc (suc (suc zero)))))))))))) r exc field matches a b c = absurd (r .0 .0 .0 .1 refl)
-no-work (suc (suc (suc (suc (suc (suc (suc (suc (suc (suc (suc (suc (suc zero))))))))))))) r exc field matches a b c = absurd (r .0 .0 .1 refl)
-no-work (suc (suc (suc (suc (suc (suc (suc (suc (suc (suc (suc (suc (suc (suc zero)))))))))))))) r exc field matches a b c = absurd (r .0 .1 refl)
-no-work (suc (suc (suc (suc (suc (suc (suc (suc (suc (suc (suc (suc (suc (suc (suc zero))))))))))))))) r exc field matches a b c = refl
-no-work (suc (suc (suc (suc (suc (suc (suc (suc (suc (suc (suc (suc (suc (suc (suc (suc zero)))))))))))))))) r exc field matches a b c = absurd (r .1 refl)
-no-work (suc (suc (suc (suc (suc (suc (suc (suc (suc (suc (suc (suc (suc (suc (suc (suc (suc zero))))))))))))))))) r exc field matches a b c = refl
-no-work (suc (suc (suc (suc (suc (suc (suc (suc (suc (suc (suc (suc (suc (suc (suc (suc (suc (suc zero)))))))))))))))))) r exc field matches a b c = refl
-no-work (suc (suc (suc (suc (suc (suc (suc (suc (suc (suc (suc (suc (suc (suc (suc (suc (suc (suc (suc zero))))))))))))))))))) r exc field matches a b c = refl
-no-work (suc (suc (suc (suc (suc (suc (suc (suc (suc (suc (suc (suc (suc (suc (suc (suc (suc (suc (suc (suc zero)))))))))))))))))))) r exc field matches a b c = refl
-no-work (suc (suc (suc (suc (suc (suc (suc (suc (suc (suc (suc (suc (suc (suc (suc (suc (suc (suc (suc (suc (suc n))))))))))))))))))))) r exc field matches a b c = refl
+pub no-short : (n : ℕ) → NoneOf n shortNumbers → (exc matches : Bool) (a b c : ℕ) → quiet c ≡ resultOf (shortWork n) exc 0 matches a b c
+unfolding shortWork resultOf
+no-short zero r exc matches a b c = refl
+no-short (suc zero) r exc matches a b c = absurd (r .0 .0 .0 .0 .0 .0 .0 .0 .1 refl)
+no-short (suc (suc zero)) r exc matches a b c = absurd (r .0 .0 .0 .0 .0 .0 .0 .1 refl)
+no-short (suc (suc (suc zero))) r exc matches a b c = absurd (r .0 .0 .0 .0 .0 .0 .1 refl)
+no-short (suc (suc (suc (suc zero)))) r exc matches a b c = refl
+no-short (suc (suc (suc (suc (suc zero))))) r exc matches a b c = absurd (r .0 .0 .0 .0 .0 .1 refl)
+no-short (suc (suc (suc (suc (suc (suc zero)))))) r exc matches a b c = absurd (r .0 .0 .0 .0 .1 refl)
+no-short (suc (suc (suc (suc (suc (suc (suc zero))))))) r exc matches a b c = absurd (r .0 .0 .0 .1 refl)
+no-short (suc (suc (suc (suc (suc (suc (suc (suc zero)))))))) r exc matches a b c = absurd (r .0 .0 .1 refl)
+no-short (suc (suc (suc (suc (suc (suc (suc (suc (suc zero))))))))) r exc matches a b c = absurd (r .0 .1 refl)
+no-short (suc (suc (suc (suc (suc (suc (suc (suc (suc (suc zero)))))))))) r exc matches a b c = refl
+no-short (suc (suc (suc (suc (suc (suc (suc (suc (suc (suc (suc zero))))))))))) r exc matches a b c = refl
+no-short (suc (suc (suc (suc (suc (suc (suc (suc (suc (suc (suc (suc zero)))))))))))) r exc matches a b c = refl
+no-short (suc (suc (suc (suc (suc (suc (suc (suc (suc (suc (suc (suc (suc zero))))))))))))) r exc matches a b c = refl
+no-short (suc (suc (suc (suc (suc (suc (suc (suc (suc (suc (suc (suc (suc (suc zero)))))))))))))) r exc matches a b c = refl
+no-short (suc (suc (suc (suc (suc (suc (suc (suc (suc (suc (suc (suc (suc (suc (suc zero))))))))))))))) r exc matches a b c = refl
+no-short (suc (suc (suc (suc (suc (suc (suc (suc (suc (suc (suc (suc (suc (suc (suc (suc zero)))))))))))))))) r exc matches a b c = absurd (r .1 refl)
+no-short (suc (suc (suc (suc (suc (suc (suc (suc (suc (suc (suc (suc (suc (suc (suc (suc (suc n))))))))))))))))) r exc matches a b c = refl
+
+pub no-floating : (n : ℕ) → NoneOf n floatingNumbers → (exc : Bool) (field a b c : ℕ) → quiet c ≡ resultOf (floatingWork n) exc field false a b c
+unfolding floatingWork resultOf
+no-floating zero r exc field a b c = refl
+no-floating (suc zero) r exc field a b c = refl
+no-floating (suc (suc zero)) r exc field a b c = refl
+no-floating (suc (suc (suc zero))) r exc field a b c = refl
+no-floating (suc (suc (suc (suc zero)))) r exc field a b c = refl
+no-floating (suc (suc (suc (suc (suc zero))))) r exc field a b c = refl
+no-floating (suc (suc (suc (suc (suc (suc zero)))))) r exc field a b c = refl
+no-floating (suc (suc (suc (suc (suc (suc (suc zero))))))) r exc field a b c = refl
+no-floating (suc (suc (suc (suc (suc (suc (suc (suc zero)))))))) r exc field a b c = refl
+no-floating (suc (suc (suc (suc (suc (suc (suc (suc (suc zero))))))))) r exc field a b c = refl
+no-floating (suc (suc (suc (suc (suc (suc (suc (suc (suc (suc zero)))))))))) r exc field a b c = absurd (r .0 .0 .0 .1 refl)
+no-floating (suc (suc (suc (suc (suc (suc (suc (suc (suc (suc (suc zero))))))))))) r exc field a b c = absurd (r .0 .0 .1 refl)
+no-floating (suc (suc (suc (suc (suc (suc (suc (suc (suc (suc (suc (suc zero)))))))))))) r exc field a b c = absurd (r .0 .1 refl)
+no-floating (suc (suc (suc (suc (suc (suc (suc (suc (suc (suc (suc (suc (suc zero))))))))))))) r exc field a b c = refl
+no-floating (suc (suc (suc (suc (suc (suc (suc (suc (suc (suc (suc (suc (suc (suc zero)))))))))))))) r exc field a b c = absurd (r .1 refl)
+no-floating (suc (suc (suc (suc (suc (suc (suc (suc (suc (suc (suc (suc (suc (suc (suc n))))))))))))))) r exc field a b c = refl
+
+-- what is no short work and no compare is a floating work, or leaves an element as it was
+pub is-floating : (n : ℕ) → NoneOf n shortNumbers → (n ≡ 4 → ⊥) → (n ≡ 13 → ⊥) → (exc : Bool) (field : ℕ) (matches : Bool) (a b c : ℕ)
+    → resultOf (floatingWork n) exc field false a b c ≡ resultOf (coded n) exc field matches a b c
+unfolding coded floatingWork resultOf
+is-floating zero r f g exc field matches a b c = refl
+is-floating (suc zero) r f g exc field matches a b c = absurd (r .0 .0 .0 .0 .0 .0 .0 .0 .1 refl)
+is-floating (suc (suc zero)) r f g exc field matches a b c = absurd (r .0 .0 .0 .0 .0 .0 .0 .1 refl)
+is-floating (suc (suc (suc zero))) r f g exc field matches a b c = absurd (r .0 .0 .0 .0 .0 .0 .1 refl)
+is-floating (suc (suc (suc (suc zero)))) r f g exc field matches a b c = absurd (f refl)
+is-floating (suc (suc (suc (suc (suc zero))))) r f g exc field matches a b c = absurd (r .0 .0 .0 .0 .0 .1 refl)
+is-floating (suc (suc (suc (suc (suc (suc zero)))))) r f g exc field matches a b c = absurd (r .0 .0 .0 .0 .1 refl)
+is-floating (suc (suc (suc (suc (suc (suc (suc zero))))))) r f g exc field matches a b c = absurd (r .0 .0 .0 .1 refl)
+is-floating (suc (suc (suc (suc (suc (suc (suc (suc zero)))))))) r f g exc field matches a b c = absurd (r .0 .0 .1 refl)
+is-floating (suc (suc (suc (suc (suc (suc (suc (suc (suc zero))))))))) r f g exc field matches a b c = absurd (r .0 .1 refl)
+is-floating (suc (suc (suc (suc (suc (suc (suc (suc (suc (suc zero)))))))))) r f g exc field matches a b c = refl
+is-floating (suc (suc (suc (suc (suc (suc (suc (suc (suc (suc (suc zero))))))))))) r f g exc field matches a b c = refl
+is-floating (suc (suc (suc (suc (suc (suc (suc (suc (suc (suc (suc (suc zero)))))))))))) r f g exc field matches a b c = refl
+is-floating (suc (suc (suc (suc (suc (suc (suc (suc (suc (suc (suc (suc (suc zero))))))))))))) r f g exc field matches a b c = absurd (g refl)
+is-floating (suc (suc (suc (suc (suc (suc (suc (suc (suc (suc (suc (suc (suc (suc zero)))))))))))))) r f g exc field matches a b c = refl
+is-floating (suc (suc (suc (suc (suc (suc (suc (suc (suc (suc (suc (suc (suc (suc (suc zero))))))))))))))) r f g exc field matches a b c = refl
+is-floating (suc (suc (suc (suc (suc (suc (suc (suc (suc (suc (suc (suc (suc (suc (suc (suc zero)))))))))))))))) r f g exc field matches a b c = absurd (r .1 refl)
+is-floating (suc (suc (suc (suc (suc (suc (suc (suc (suc (suc (suc (suc (suc (suc (suc (suc (suc zero))))))))))))))))) r f g exc field matches a b c = refl
+is-floating (suc (suc (suc (suc (suc (suc (suc (suc (suc (suc (suc (suc (suc (suc (suc (suc (suc (suc zero)))))))))))))))))) r f g exc field matches a b c = refl
+is-floating (suc (suc (suc (suc (suc (suc (suc (suc (suc (suc (suc (suc (suc (suc (suc (suc (suc (suc (suc zero))))))))))))))))))) r f g exc field matches a b c = refl
+is-floating (suc (suc (suc (suc (suc (suc (suc (suc (suc (suc (suc (suc (suc (suc (suc (suc (suc (suc (suc (suc zero)))))))))))))))))))) r f g exc field matches a b c = refl
+is-floating (suc (suc (suc (suc (suc (suc (suc (suc (suc (suc (suc (suc (suc (suc (suc (suc (suc (suc (suc (suc (suc n))))))))))))))))))))) r f g exc field matches a b c = refl
+
+-- a compare ignores EXC, the mask bit and Vc
+pub compare-ignores : (n : ℕ) (exc : Bool) (relation : ℕ) (matches : Bool) (a b c : ℕ) → resultOf (compareWork n) false relation false a b 0 ≡ resultOf (compareWork n) exc relation matches a b c
+unfolding resultOf
+compare-ignores n exc relation matches a b c = at (eqb n 4)
+  where
+    at : (t : Bool) → resultOf (pick t CompareLongword CompareF) false relation false a b 0 ≡ resultOf (pick t CompareLongword CompareF) exc relation matches a b c
+    at true = refl
+    at false = refl
+
+-- it records a reserved operand, or nothing
+pub compare-types : (n relation a b : ℕ) → (resultOf (compareWork n) false relation false a b 0 .types ≡ 0) ⊎ (resultOf (compareWork n) false relation false a b 0 .types ≡ 4)
+unfolding resultOf
+compare-types n relation a b = at (eqb n 4)
+  where
+    either : Bool → Bool → Bool → Compared
+    either s t x = cond s (record { bit = false; types = 4 }) (cond t (record { bit = false; types = 4 }) (record { bit = x; types = 0 }))
+
+    reserved : (s t x : Bool) → (either s t x .types ≡ 0) ⊎ (either s t x .types ≡ 4)
+    reserved true t x = inr refl
+    reserved false true x = inr refl
+    reserved false false x = inl refl
+
+    at : (t : Bool) → (resultOf (pick t CompareLongword CompareF) false relation false a b 0 .types ≡ 0) ⊎ (resultOf (pick t CompareLongword CompareF) false relation false a b 0 .types ≡ 4)
+    at true = inl refl
+    at false = reserved (isReserved F (low a)) (isReserved F (low b)) _

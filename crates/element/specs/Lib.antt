@@ -1,2 +1,3 @@
 -- What one element receives.
 pub mod Receives
+pub mod Groups

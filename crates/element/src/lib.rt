@@ -3,7 +3,9 @@ use opcodes::Work;
 ghost use mathlib.Core.Path.{_≡_};
 ghost use Rattle.numbers.specs.Choice.{pick};
 ghost use Rattle.opcodes.specs.WorkNumbers.{workNumber};
-ghost use Rattle.element.specs.Receives.{quiet as quietOut, bitOut, resultOf, coded};
+ghost use mathlib.Core.Bool.{false};
+ghost use Rattle.element.specs.Receives.{quiet as quietOut, bitOut, resultOf};
+ghost use Rattle.element.specs.Groups.{shortWork, floatingWork, compareWork};
 
 mod float;
 mod integer;
@@ -33,28 +35,45 @@ fn mask_bit(t: bool, types: u64) -> Out
     }
 }
 
-// The work of one element, by the work's number. The numbers and flags are plain, so that the
-// compiler can make a loop for each work.
-pub fn result(code: u8, exc: bool, field: u64, matches: bool, a: u64, b: u64, c: u64) -> Out
-    ensures { λ r. ⌜ r ≡ resultOf (coded code) exc field matches a b c ⌝ }
+// A short work of one element, by its number: integer, logical, shift or merge. Numbers and flags are
+// plain, so that the compiler can make a loop for each work.
+pub fn short(code: u8, exc: bool, matches: bool, a: u64, b: u64, c: u64) -> Out
+    ensures { λ r. ⌜ r ≡ resultOf (shortWork code) exc 0 matches a b c ⌝ }
 {
     match code {
         1 => integer::add(exc, a, b, c),
         2 => integer::subtract(exc, a, b, c),
         3 => integer::multiply(exc, a, b, c),
-        4 => integer::compare(field, a, b),
         5 => quiet(longword::bit_set(a, b)),
         6 => quiet(longword::exclusive_or(a, b)),
         7 => quiet(longword::bit_clear(a, b)),
         8 => integer::shift_right(a, b, c),
         9 => integer::shift_left(a, b, c),
+        16 => quiet(merged(matches, a, b)),
+        _ => quiet(c),
+    }
+}
+
+// A floating work of one element that writes an element.
+pub fn floating_result(code: u8, exc: bool, field: u64, a: u64, b: u64, c: u64) -> Out
+    ensures { λ r. ⌜ r ≡ resultOf (floatingWork code) exc field false a b c ⌝ }
+{
+    match code {
         10 => float::add(exc, a, b, c),
         11 => float::subtract(exc, a, b, c),
         12 => float::multiply(exc, a, b, c),
-        13 => float::compare(field, a, b),
         14 => float::convert(field, exc, b, c),
-        16 => quiet(merged(matches, a, b)),
         _ => quiet(c),
+    }
+}
+
+// The compare of one element: longword, or F.
+pub fn compared(code: u8, relation: u64, a: u64, b: u64) -> Out
+    ensures { λ r. ⌜ r ≡ resultOf (compareWork code) false relation false a b 0 ⌝ }
+{
+    match code {
+        4 => integer::compare(relation, a, b),
+        _ => float::compare(relation, a, b),
     }
 }
 

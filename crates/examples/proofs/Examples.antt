@@ -21,7 +21,7 @@ use Rattle.machine.specs.Run.{begun, gathered, ended, finished}
 use Rattle.machine.specs.Step.{operated, received, notes, written, worked, elementStep}
 use Rattle.machine.specs.Iota.{matching, turned, walked, iotaStep}
 use Rattle.machine.specs.Instruction.{stepOf, stepsBelow, wholeOf, instructionOf}
-use Rattle.memory.specs.Rising.{rising}
+use Rattle.numbers.specs.Rising.{rising}
 use Rattle.memory.specs.Window.{allowed}
 use Rattle.memory.specs.Address.{testOf, testStep}
 use Rattle.memory.specs.Move.{loadStep, movedOf}

@@ -2,8 +2,11 @@
 use mathlib.Core.Path.{_≡_, refl, sym, ap, ap₂, _∙_}
 use mathlib.Core.Bool.{Bool, true, false, not, _||_, _&&_}
 use Prim.Native.Nat.{ℕ}
-use lib.Bits.{bitOr, or-zero-r}
+use lib.Bits.{bitOr, or-zero-l, or-zero-r, or-self, or-comm}
 use lib.Dec.{eqb}
+use borrow.Author.Tests.{eqb-true}
+use Rattle.numbers.specs.Choice.{pick}
+use Rattle.machine.specs.Step.{notes}
 use Rattle.machine.specs.declared.Progress.{Progress}
 use Rattle.machine.specs.Run.{progress, withVaer, gathered}
 use Rattle.numbers.proofs.BitLaws.{or-assoc, or-none}
@@ -28,3 +31,20 @@ pub gathered-none : (p : Progress) → gathered 0 p ≡ p
 unfolding gathered
 gathered-none p =
     ap₂ (λ (v : ℕ) (r : Bool). progress (withVaer (p .control) v) r) (or-zero-r (p .control .vaer)) (or-false (p .recorded))
+
+-- types gather before or after the register's bit joins them
+pub notes-or : (register t u : ℕ) → bitOr (notes register t) (notes register u) ≡ notes register (bitOr t u)
+unfolding notes
+notes-or r t u = at (eqb t 0) (eqb u 0) refl refl ∙ ap (λ (e : Bool). pick e 0 (bitOr (bitOr t u) r)) (sym (or-none t u))
+  where
+    twice : bitOr (bitOr t r) (bitOr u r) ≡ bitOr (bitOr t u) r
+    twice =
+        or-assoc t r (bitOr u r)
+        ∙ ap (bitOr t) (ap (bitOr r) (or-comm u r) ∙ sym (or-assoc r r u) ∙ ap (λ (x : ℕ). bitOr x u) (or-self r) ∙ or-comm r u)
+        ∙ sym (or-assoc t u r)
+
+    at : (a b : Bool) → eqb t 0 ≡ a → eqb u 0 ≡ b → bitOr (pick a 0 (bitOr t r)) (pick b 0 (bitOr u r)) ≡ pick (a && b) 0 (bitOr (bitOr t u) r)
+    at true true e f = refl
+    at true false e f = or-zero-l (bitOr u r) ∙ sym (ap (λ (x : ℕ). bitOr x r) (ap (λ (x : ℕ). bitOr x u) (eqb-true t 0 e) ∙ or-zero-l u))
+    at false true e f = or-zero-r (bitOr t r) ∙ sym (ap (λ (x : ℕ). bitOr x r) (ap (bitOr t) (eqb-true u 0 f) ∙ or-zero-r t))
+    at false false e f = twice

@@ -1,24 +1,31 @@
 -- IOTA: the count of ones is the walk's own count, and the walk's turns.
 -- Assumes nothing.
 use mathlib.Core.Path.{_≡_, refl, sym, ap, ap₂, _∙_}
-use mathlib.Core.Bool.{Bool, true, false, Bool·beq}
+use mathlib.Core.Bool.{Bool, true, false, _&&_, Bool·beq}
 use mathlib.Core.List.{List}
 use Prim.Native.Nat.{ℕ, zero, suc, _+_, _-_, _*_, _%_, _^_, _≤_, _<_}
-use native.Mathlib.Nat.{mul-le-mul-right, le-of-lt}
-use native.Mathlib.Numerals.{add-one}
+use native.Mathlib.Nat.{mul-le-mul-right, le-of-lt, le-refl}
 use native.Mathlib.Omega.{arith}
 use lib.Count.{ones}
-use lib.ListN.{set}
+use borrow.Author.Tests.{lt-ltb, le-ltb}
 use Rattle.numbers.specs.Choice.{pick}
-use Rattle.numbers.specs.Bits.{bit, lowBits, complement}
-use Rattle.numbers.specs.Halves.{low, withLow}
-use Rattle.numbers.proofs.BitLaws.{digit, digit-complement, bit-counts, none-below, one-more-below}
-use Rattle.state.specs.State.{placeOf}
+use Rattle.numbers.specs.Bits.{bit, withoutBit, lowBits, complement, lowestOne}
+use Rattle.numbers.specs.Rising.{rising, ofOnes}
+use Rattle.numbers.specs.Halves.{low}
+use Rattle.numbers.proofs.BitLaws.{digit, digit-complement, bit-counts, bit-below, none-below, one-more-below}
+use Rattle.numbers.proofs.Rising.{settles}
+use Rattle.numbers.proofs.SetBits.{Walk, starts-walk, ends-walk, index-below, less-left, turns-walk, rises}
+use Rattle.numbers.proofs.Tests.{pick-true, pick-false}
 use Rattle.opcodes.specs.declared.Instruction.{Instruction}
+use Rattle.machine.specs.declared.Effect.{Effect}
 use Rattle.machine.specs.declared.Progress.{Progress}
-use Rattle.machine.specs.Run.{run, progress, withVcr}
-use Rattle.state.specs.Elements.{at, matches}
-use Rattle.machine.specs.Iota.{matching, turned, walked, iotaStep}
+use Rattle.machine.specs.Kind.{kindOf, isIota}
+use Rattle.machine.specs.Run.{run, progress, withVmr, withVcr, gathered}
+use Rattle.state.specs.Elements.{matches}
+use Rattle.machine.specs.Iota.{matching, put, turned, walked, iotaStep}
+use Rattle.machine.specs.Loops.{matched, Written, wrote, iotaTurn, effected, doneFor}
+use Rattle.machine.proofs.Gather.{gathered-none}
+use Rattle.machine.proofs.Values.{is-matched}
 
 -- ---- the count of ones
 
@@ -58,58 +65,88 @@ matching-le vmr mtf (suc n) = one-more (matches vmr mtf n) (matching-le vmr mtf 
 pub counts : (vmr : ℕ) (mtf : Bool) (n m b : ℕ) → vmr < 2 ^ 64 → n ≤ 64 → m ≡ pick mtf vmr (complement 64 vmr) → b ≡ lowBits m n → ones b ≡ matching vmr mtf n
 counts vmr mtf n m b small h e f = ap ones (f ∙ ap (λ (x : ℕ). lowBits x n) e) ∙ counted 64 vmr mtf n small h
 
--- ---- a turn of the walk
-
 pub multiple-lt : (i stride : ℕ) → i < 64 → stride < 2 ^ 32 → i * stride < 2 ^ 64
 multiple-lt i stride h small = let le : i * stride ≤ 64 * stride = mul-le-mul-right stride (le-of-lt h) in omega arith
 
--- t is the mask bit as it was read, p the multiple, and v what the next element is to be
-module _ (vmr : ℕ) (mtf : Bool) (stride vc i next : ℕ) (t : Bool) (e : t ≡ bit vmr i) where
-  picked : (u : Bool) → Bool·beq t mtf ≡ u → matches vmr mtf i ≡ u
-  picked u h = rw (← e) h
+-- ---- the walk over the ones of the mask or its complement, cut at VLR
 
-  pub writes : (p v : ℕ) (l : List ℕ) → Bool·beq t mtf ≡ true → p ≡ i * stride % 2 ^ 32 → v ≡ withLow (at l vc next) p
-      → set l (placeOf vc next) v ≡ turned vmr mtf stride vc i next l
-  unfolding turned
-  writes p v l h q w = rw (picked true h, w, q) refl
+-- the walk goes on: the next element is no higher than the one that the lowest one left stands for
+abbrev pub Going : ℕ → ℕ → ℕ → List ℕ → ℕ → List ℕ → ℕ → Type 0
+Going stride vc which l₀ left l next = Walk (iotaTurn stride vc) which 64 (wrote l₀ 0) left (wrote l next) × (next ≤ lowestOne left)
 
-  pub moves : Bool·beq t mtf ≡ true → next + 1 ≡ next + pick (matches vmr mtf i) 1 0
-  moves h = rw (picked true h) refl
+module _ (stride vc which : ℕ) (l₀ : List ℕ) where
+  pub begins : which < 2 ^ 64 → Going stride vc which l₀ which l₀ 0
+  begins h = (starts-walk (iotaTurn stride vc) which 64 (wrote l₀ 0) h, omega arith)
 
-  pub keeps : (l : List ℕ) → Bool·beq t mtf ≡ false → l ≡ turned vmr mtf stride vc i next l
-  unfolding turned
-  keeps l h = rw (picked false h) refl
+  module _ (left next : ℕ) (l : List ℕ) (g : Going stride vc which l₀ left l next) where
+    pub finishes : left ≡ 0 → wrote l next ≡ rising (ofOnes (iotaTurn stride vc) which) 64 (wrote l₀ 0)
+    finishes e = ends-walk (iotaTurn stride vc) which 64 (wrote l₀ 0) left (wrote l next) (g .0) e
 
-  pub stays : Bool·beq t mtf ≡ false → next ≡ next + pick (matches vmr mtf i) 1 0
-  stays h = rw (picked false h) (omega arith)
+    module _ (i : ℕ) (some : 0 < left) (narrow : left < 2 ^ 64) (at : i ≡ lowestOne left) where
+      pub inside : i < 64
+      inside = index-below (iotaTurn stride vc) which 64 (wrote l₀ 0) left (wrote l next) (g .0) some narrow i at
 
--- ---- the walk
+      pub has-room : next < 64
+      has-room = let h = inside in let k = g .1 in omega arith
 
-module _ (vmr : ℕ) (mtf : Bool) (i next : ℕ) (e : next ≡ matching vmr mtf i) where
-  pub next-le : next ≤ i
-  next-le = let le = matching-le vmr mtf i in omega arith
+      module _ (rest : ℕ) (others : rest ≡ withoutBit left (lowestOne left)) where
+        pub fewer : rest < left
+        fewer = less-left (iotaTurn stride vc) which 64 (wrote l₀ 0) left (wrote l next) (g .0) some narrow i at rest others
 
-  pub counts-on : (next′ : ℕ) → next′ ≡ next + pick (matches vmr mtf i) 1 0 → next′ ≡ matching vmr mtf (i + 1)
-  unfolding matching
-  counts-on next′ f = rw (add-one, ← e) f
+        pub goes : (l′ : List ℕ) → l′ ≡ put vc next (i * stride % 2 ^ 32) l → Going stride vc which l₀ rest l′ (next + 1)
+        unfolding iotaTurn
+        goes l′ e = (
+          turns-walk (iotaTurn stride vc) which 64 (wrote l₀ 0) left (wrote l next) (g .0) some narrow i at rest others (wrote l′ (next + 1)) (ap (λ (y : List ℕ). wrote y (next + 1)) e),
+          let h = rises left some narrow in let k = g .1 in rw others (omega arith),
+        )
 
-  -- one turn more
-  pub walks : (stride vc : ℕ) (l₀ l l′ : List ℕ) → l ≡ walked vmr mtf stride vc i l₀
-      → l′ ≡ turned vmr mtf stride vc i next l
-      → l′ ≡ walked vmr mtf stride vc (i + 1) l₀
-  unfolding walked
-  walks stride vc l₀ l l′ f g = rw (add-one, ← e, ← f) g
+module _ (vmr : ℕ) (mtf : Bool) (stride vc : ℕ) (l : List ℕ) (word : vmr < 2 ^ 64) (vlr which : ℕ) (short : vlr ≤ 64) (is : which ≡ lowBits (matched vmr mtf) vlr) where
+  abbrev after : ℕ → Written
+  after n = rising (ofOnes (iotaTurn stride vc) which) n (wrote l 0)
 
--- the last turn
-pub walk-ends : (vmr : ℕ) (mtf : Bool) (stride vc i n : ℕ) (l₀ l : List ℕ) → i ≤ n → n ≤ i → l ≡ walked vmr mtf stride vc i l₀ → l ≡ walked vmr mtf stride vc n l₀
-walk-ends vmr mtf stride vc i n l₀ l h k e = let g : n ≡ i = omega arith in rw g e
+  ones-match : (n : ℕ) → n < vlr → bit which n ≡ matches vmr mtf n
+  ones-match n h = ap (λ (y : ℕ). bit y n) is ∙ bit-below (matched vmr mtf) vlr n ∙ ap (λ (t : Bool). t && bit (matched vmr mtf) n) (lt-ltb n vlr h) ∙ is-matched vmr mtf n word (omega arith)
+
+  ones-past : (n : ℕ) → vlr ≤ n → bit which n ≡ false
+  ones-past n h = ap (λ (y : ℕ). bit y n) is ∙ bit-below (matched vmr mtf) vlr n ∙ ap (λ (t : Bool). t && bit (matched vmr mtf) n) (le-ltb n vlr h)
+
+  -- it is the walk over the mask
+  same-walk : (n : ℕ) → n ≤ vlr → after n ≡ wrote (walked vmr mtf stride vc n l) (matching vmr mtf n)
+  unfolding rising ofOnes iotaTurn walked turned matching
+  same-walk zero h = refl
+  same-walk (suc n) h =
+      ap₂ (λ (t : Bool) (s : Written). pick t (iotaTurn stride vc n s) s) (ones-match n h) (same-walk n (omega arith))
+      ∙ go (matches vmr mtf n)
+    where
+      go : (t : Bool)
+          → pick t (wrote (put vc (matching vmr mtf n) (n * stride % 2 ^ 32) (walked vmr mtf stride vc n l)) (matching vmr mtf n + 1)) (wrote (walked vmr mtf stride vc n l) (matching vmr mtf n))
+          ≡ wrote (pick t (put vc (matching vmr mtf n) (n * stride % 2 ^ 32) (walked vmr mtf stride vc n l)) (walked vmr mtf stride vc n l)) (matching vmr mtf n + pick t 1 0)
+      go true = refl
+      go false = ap (wrote (walked vmr mtf stride vc n l)) (omega arith)
+
+  pub whole-walk : (l′ : List ℕ) (next : ℕ) → wrote l′ next ≡ after 64 → l′ ≡ walked vmr mtf stride vc vlr l
+  unfolding ofOnes
+  whole-walk l′ next e =
+      ap (λ (s : Written). s .elements)
+      (e
+      ∙ sym (settles (ofOnes (iotaTurn stride vc) which) (after vlr) (wrote l 0) vlr 64 short (λ j h _. pick-false (bit which j) (iotaTurn stride vc j (after vlr)) (after vlr) (ones-past j h)) refl)
+      ∙ same-walk vlr (le-refl vlr))
 
 -- ---- the step
 
--- l′ is what the walk leaves, and k the count
-pub stepped : (ins : Instruction) (stride : ℕ) (p : Progress) (l l′ : List ℕ) (k : ℕ)
-    → l′ ≡ walked (p .control .vmr) (ins .mtf) (low stride) (ins .vc .0) (p .control .vlr) l
-    → k ≡ matching (p .control .vmr) (ins .mtf) (p .control .vlr)
-    → run l′ (progress (withVcr (p .control) k) (p .recorded)) ≡ iotaStep ins stride (run l p)
-unfolding iotaStep
-stepped ins stride p l l′ k e f = ap₂ (λ (a : List ℕ) (v : ℕ). run a (progress (withVcr (p .control) v) (p .recorded))) e f
+-- l′ is what the walk leaves, and the count that of the ones
+pub stepped : (ins : Instruction) (stride low-stride which bits next : ℕ) (p : Progress) (l l′ : List ℕ) (e : Effect)
+    → isIota (kindOf (ins .work)) ≡ true → p .control .vmr < 2 ^ 64 → p .control .vlr ≤ 64
+    → bits ≡ lowBits (matched (p .control .vmr) (ins .mtf)) (p .control .vlr)
+    → low-stride ≡ low stride
+    → wrote l′ next ≡ rising (ofOnes (iotaTurn low-stride (ins .vc .0)) bits) 64 (wrote l 0)
+    → e .vmr ≡ p .control .vmr → e .vcr ≡ ones bits → e .notes ≡ 0
+    → run l′ (effected e p) ≡ doneFor which ins stride (run l p)
+unfolding doneFor iotaStep
+stepped ins stride low-stride which bits next p l l′ e iota word short is s walk v c n =
+    ap (λ (k : ℕ). run l′ (gathered k (progress (withVcr (withVmr (p .control) (e .vmr)) (e .vcr)) (p .recorded)))) n
+    ∙ ap₂ (λ (a b : ℕ). run l′ (gathered 0 (progress (withVcr (withVmr (p .control) a) b) (p .recorded)))) v (c ∙ counts (p .control .vmr) (ins .mtf) (p .control .vlr) (matched (p .control .vmr) (ins .mtf)) bits word short refl is)
+    ∙ ap (run l′) (gathered-none (progress (withVcr (p .control) (matching (p .control .vmr) (ins .mtf) (p .control .vlr))) (p .recorded)))
+    ∙ ap (λ (y : List ℕ). run y (progress (withVcr (p .control) (matching (p .control .vmr) (ins .mtf) (p .control .vlr))) (p .recorded)))
+    (whole-walk (p .control .vmr) (ins .mtf) low-stride (ins .vc .0) l word (p .control .vlr) bits short is l′ next walk ∙ ap (λ (t : ℕ). walked (p .control .vmr) (ins .mtf) t (ins .vc .0) (p .control .vlr) l) s)
+    ∙ sym (pick-true (isIota (kindOf (ins .work))) _ _ iota)

@@ -1,10 +1,10 @@
 -- Laws of the machine.
 pub mod Gather
-pub mod Loops
-pub mod ElementSteps
-pub mod MaskSteps
+pub mod Chosen
+pub mod WorkKinds
+pub mod LaneLoops
+pub mod Compares
+pub mod Values
 pub mod IotaLaws
 pub mod IotaExample
-pub mod Whole
-pub mod OneStep
 pub mod IotaTouches

@@ -1,74 +1,88 @@
--- What the loops over a register's elements make, in the terms that they work with: the elements (or the mask) and the notes gathered. No public promise cites this; proofs/ shows that
--- this is what the instruction's steps make.
-use mathlib.Core.Bool.{Bool, true, not, _||_}
-use mathlib.Core.List.{List, [], _∷_, _++_}
-use Prim.Native.Nat.{ℕ, zero, suc, _+_, _*_, _%_}
+-- What the loops over elements make, in the terms that they work with. No public promise cites this; proofs/ shows that this is what the instruction's steps make.
+use mathlib.Core.Bool.{Bool, true, false}
+use mathlib.Core.List.{List}
+use Prim.Native.Nat.{ℕ, zero, suc, _+_, _*_, _/_, _%_, _^_}
 use lib.Bits.{bitOr}
-use lib.ListN.{getD, set, replicate}
+use lib.ListN.{set}
 use Rattle.numbers.specs.Choice.{pick}
-use Rattle.numbers.specs.Bits.{withBit}
+use Rattle.numbers.specs.Bits.{bit, complement}
+use Rattle.numbers.specs.Halves.{withLow}
+use Rattle.numbers.specs.Rising.{rising, ofOnes}
 use Rattle.state.specs.State.{placeOf}
+use Rattle.state.specs.Elements.{at}
+use Rattle.opcodes.specs.declared.Instruction.{Instruction}
 use Rattle.element.specs.declared.Out.{Out}
 use Rattle.element.specs.Receives.{resultOf, coded}
-use Rattle.machine.specs.declared.Masked.{Masked}
-use Rattle.state.specs.Elements.{at, matches}
-use Rattle.machine.specs.Step.{notes}
+use Rattle.element.specs.Groups.{shortWork, floatingWork, compareWork}
+use Rattle.machine.specs.declared.Effect.{Effect}
+use Rattle.machine.specs.declared.Progress.{Progress}
+use Rattle.machine.specs.Kind.{kindOf, isIota}
+use Rattle.machine.specs.Run.{Run, progress, withVmr, withVcr, gathered}
+use Rattle.machine.specs.Step.{worked}
+use Rattle.machine.specs.Iota.{iotaStep, put}
 
--- n elements from place k on, and the first operand: a scalar for every element, or a register
-unfoldable pub lanesFrom : ℕ → List ℕ → ℕ → List ℕ
-lanesFrom zero l k = []
-lanesFrom (suc n) l k = lanesFrom n l k ++ (getD l (k + n) 0 ∷ [])
+-- the mask or its complement: its ones are the bits that are MTF
+abbrev pub matched : ℕ → Bool → ℕ
+matched vmr mtf = pick mtf vmr (complement 64 vmr)
 
-abbrev pub sourceOf : List ℕ → Bool → ℕ → ℕ → List ℕ
-sourceOf l scalar s r = pick scalar (replicate 64 s) (lanesFrom 64 l (r * 64))
-
--- the work of element i, by its number
-abbrev pub workAt : ℕ → Bool → ℕ → ℕ → Bool → ℕ → ℕ → ℕ → ℕ → Out
-workAt code exc field vmr mtf i a b c = resultOf (coded code) exc field (matches vmr mtf i) a b c
-
--- which elements are operated on: all, or those whose mask bit is MTF
-abbrev pub everywhere : ℕ → Bool
-everywhere i = true
-
-abbrev pub chosenBy : Bool → ℕ → Bool → ℕ → Bool
-chosenBy masked vmr mtf = pick masked (matches vmr mtf) everywhere
+-- the first operand of element i: a scalar, or va's element
+abbrev pub operandAt : Bool → ℕ → ℕ → List ℕ → ℕ → ℕ
+operandAt scalar x va l i = pick scalar x (at l va i)
 
 -- ---- works that write elements
 pub record Lanes : Type 0 where
   pub elements : List ℕ
-  pub notes : ℕ
+  pub types : ℕ
 
 abbrev pub lanes : List ℕ → ℕ → Lanes
-lanes l n = record { elements = l; notes = n }
+lanes l t = record { elements = l; types = t }
 
-abbrev pub landed : ℕ → ℕ → ℕ → Lanes → Out → Lanes
-landed vc register i s o = lanes (set (s .elements) (placeOf vc i) (o .value)) (bitOr (s .notes) (notes register (o .types)))
+abbrev pub landed : ℕ → ℕ → Lanes → Out → Lanes
+landed vc i s o = lanes (set (s .elements) (placeOf vc i) (o .value)) (bitOr (s .types) (o .types))
 
--- element i of vc is what w makes of x, vb's and its own
-unfoldable pub laneWorked : (ℕ → ℕ → ℕ → ℕ → Out) → ℕ → ℕ → ℕ → ℕ → ℕ → Lanes → Lanes
-laneWorked w x vb vc register i s = landed vc register i s (w i x (at (s .elements) vb i) (at (s .elements) vc i))
+-- element i of vc is what w makes of a, vb's element and its own
+unfoldable pub laneWorked : (ℕ → ℕ → ℕ → ℕ → Out) → ℕ → ℕ → ℕ → ℕ → Lanes → Lanes
+laneWorked w a vb vc i s = landed vc i s (w i a (at (s .elements) vb i) (at (s .elements) vc i))
 
-unfoldable pub laneStep : (ℕ → ℕ → ℕ → ℕ → Out) → (ℕ → Bool) → List ℕ → ℕ → ℕ → ℕ → ℕ → Lanes → Lanes
-laneStep w p a vb vc register i s = pick (p i) (laneWorked w (getD a i 0) vb vc register i s) s
+-- the same of the first operand
+unfoldable pub laneStep : (ℕ → ℕ → ℕ → ℕ → Out) → Bool → ℕ → ℕ → ℕ → ℕ → ℕ → Lanes → Lanes
+laneStep w scalar x va vb vc i s = laneWorked w (operandAt scalar x va (s .elements) i) vb vc i s
 
--- the first n elements, in order
-unfoldable pub laneSteps : (ℕ → ℕ → ℕ → ℕ → Out) → (ℕ → Bool) → List ℕ → ℕ → ℕ → ℕ → ℕ → Lanes → Lanes
-laneSteps w p a vb vc register zero s = s
-laneSteps w p a vb vc register (suc n) s = laneStep w p a vb vc register n (laneSteps w p a vb vc register n s)
+-- the works by their numbers
+abbrev pub shortAt : ℕ → Bool → ℕ → ℕ → ℕ → ℕ → ℕ → Out
+shortAt code exc mask i a b c = resultOf (shortWork code) exc 0 (bit mask i) a b c
+
+abbrev pub floatingAt : ℕ → Bool → ℕ → ℕ → ℕ → ℕ → ℕ → Out
+floatingAt code exc field i a b c = resultOf (floatingWork code) exc field false a b c
+
+abbrev pub workAt : ℕ → Bool → ℕ → ℕ → ℕ → ℕ → ℕ → ℕ → Out
+workAt code exc field mask i a b c = resultOf (coded code) exc field (bit mask i) a b c
 
 -- ---- works that write mask bits
-abbrev pub masked : ℕ → ℕ → Masked
-masked v n = record { vmr = v; notes = n }
+abbrev pub comparedAt : ℕ → ℕ → Bool → ℕ → ℕ → ℕ → List ℕ → ℕ → Out
+comparedAt code relation scalar x va vb l i = resultOf (compareWork code) false relation false (operandAt scalar x va l i) (at l vb i) 0
 
-abbrev pub marked : ℕ → Masked → Out → Masked
-marked i s o = masked (withBit (s .vmr) i (o .value % 2)) (bitOr (s .notes) (notes 0 (o .types)))
+-- the set of those of n numbers from i on whose v is odd; number i is bit 0
+unfoldable pub oddFrom : (ℕ → ℕ) → ℕ → ℕ → ℕ
+oddFrom v i zero = 0
+oddFrom v i (suc n) = oddFrom v (suc i) n * 2 + v i % 2
 
-unfoldable pub maskWorked : ℕ → Bool → ℕ → Bool → List ℕ → ℕ → ℕ → ℕ → ℕ → Masked → Masked
-maskWorked code exc field mtf l x vb vc i s = marked i s (workAt code exc field (s .vmr) mtf i x (at l vb i) (at l vc i))
+-- ---- IOTA: the elements, and which is next
+pub record Written : Type 0 where
+  pub elements : List ℕ
+  pub next : ℕ
 
-unfoldable pub maskStep : ℕ → Bool → ℕ → Bool → Bool → List ℕ → List ℕ → ℕ → ℕ → ℕ → Masked → Masked
-maskStep code exc field moe mtf l a vb vc i s = pick (not moe || matches (s .vmr) mtf i) (maskWorked code exc field mtf l (getD a i 0) vb vc i s) s
+abbrev pub wrote : List ℕ → ℕ → Written
+wrote l e = record { elements = l; next = e }
 
-unfoldable pub maskSteps : ℕ → Bool → ℕ → Bool → Bool → List ℕ → List ℕ → ℕ → ℕ → ℕ → Masked → Masked
-maskSteps code exc field moe mtf l a vb vc zero s = s
-maskSteps code exc field moe mtf l a vb vc (suc n) s = maskStep code exc field moe mtf l a vb vc n (maskSteps code exc field moe mtf l a vb vc n s)
+unfoldable pub iotaTurn : ℕ → ℕ → ℕ → Written → Written
+iotaTurn stride vc i s = wrote (put vc (s .next) (i * stride % 2 ^ 32) (s .elements)) (s .next + 1)
+
+-- ---- an instruction, or some of its steps
+-- the control record after what was done
+abbrev pub effected : Effect → Progress → Progress
+effected e p = gathered (e .notes) (progress (withVcr (withVmr (p .control) (e .vmr)) (e .vcr)) (p .recorded))
+
+-- the work of the elements of a set; IOTA's one step
+unfoldable pub doneFor : ℕ → Instruction → ℕ → Run → Run
+doneFor which ins scalar r = pick (isIota (kindOf (ins .work))) (iotaStep ins scalar r) (rising (ofOnes (worked ins scalar) which) 64 r)

@@ -1,29 +1,18 @@
 // IOTA: the walk over the mask, and the count of its matching bits.
-use crate::Progress;
-use numbers;
+use crate::Effect;
+use numbers::bits;
 use opcodes::Instruction;
 ghost use mathlib.Core.Path.{_≡_};
-ghost use Prim.Native.Nat.{_*_, _+_, _%_, _^_, _<_, _≤_};
-ghost use Rattle.numbers.specs.Bits.{complement};
-ghost use Rattle.numbers.specs.Choice.{pick};
+ghost use mathlib.Core.Bool.{true};
+ghost use Prim.Native.Nat.{ℕ, _*_, _+_, _%_, _^_, _<_, _≤_};
+ghost use lib.Count.{ones};
+ghost use Rattle.numbers.specs.Bits.{lowBits};
+ghost use Rattle.numbers.specs.Rising.{rising, ofOnes};
+ghost use Rattle.machine.specs.declared.Progress.{Progress};
+ghost use Rattle.machine.specs.Kind.{kindOf, isIota};
 ghost use Rattle.machine.specs.Run.{run as runOf};
-ghost use Rattle.state.specs.Elements.{matches};
-ghost use Rattle.machine.specs.Iota.{matching, turned, walked, iotaStep};
-
-// The mask, or its complement: its ones are the bits that match.
-fn matching_mask(vmr: u64, mtf: bool) -> u64
-    ensures { λ r. ⌜ r ≡ pick mtf vmr (complement 64 vmr) ⌝ }
-{
-    if mtf { vmr } else { !vmr }
-}
-
-// The number of matching mask bits below n.
-pub fn count(vmr: u64, mtf: bool, n: u64) -> u64
-    requires { ⌜ n ≤ 64 ⌝ }
-    ensures { λ r. ⌜ r ≡ matching vmr mtf n ⌝ }
-{
-    u64::count_ones(numbers::bits::low_bits(matching_mask(vmr, mtf), n)) as u64
-}
+ghost use Rattle.machine.specs.Iota.{put};
+ghost use Rattle.machine.specs.Loops.{matched, wrote, iotaTurn, effected, doneFor};
 
 // i times stride mod 2^32.
 fn multiple(i: usize, stride: u32) -> u32
@@ -33,61 +22,55 @@ fn multiple(i: usize, stride: u32) -> u32
     (i as u64 * stride as u64 % 4294967296) as u32
 }
 
-// The turn of mask bit i: where it matches, the next element of vc gets its multiple. Which element is next after it.
-fn turn(
-    elements: &mut [u64; 1024],
-    vmr: u64,
-    mtf: bool,
-    stride: u32,
-    vc: usize,
-    i: usize,
-    next: usize,
-) -> usize
-    requires { ⌜ (vc < 16) × (i < 64) × (next ≤ i) ⌝ }
-    ensures elements { λ r. ⌜ now (elements .exit) ≡ turned vmr mtf stride vc i next (now (elements .entry)) ⌝ }
-    ensures next { λ r. ⌜ r ≡ next + pick (matches vmr mtf i) 1 0 ⌝ }
+// The next element of vc gets i's multiple.
+fn turn(elements: &mut [u64; 1024], stride: u32, vc: usize, i: usize, next: usize)
+    requires { ⌜ (vc < 16) × (i < 64) × (next < 64) ⌝ }
+    ensures { λ _. ⌜ now (elements .exit) ≡ put vc next (i * stride % 2 ^ 32) (now (elements .entry)) ⌝ }
 {
-    if numbers::bits::bit(vmr, i) == mtf {
-        let to = vc * 64 + next;
-        elements[to] = numbers::halves::with_low(elements[to], multiple(i, stride));
-        return next + 1;
+    let to = vc * 64 + next;
+    elements[to] = numbers::halves::with_low(elements[to], multiple(i, stride));
+}
+
+// The walk over the ones of a set, rising.
+fn walk(elements: &mut [u64; 1024], which: u64, stride: u32, vc: usize) -> usize
+    requires { ⌜ vc < 16 ⌝ }
+    ensures { λ r. ⌜ wrote (now (elements .exit)) r ≡ rising (ofOnes (iotaTurn stride vc) which) 64 (wrote (now (elements .entry)) 0) ⌝ }
+{
+    let mut next: usize = 0;
+    let mut left = which;
+    while left != 0 {
+        turn(&mut *elements, stride, vc, bits::lowest(left), next);
+        next += 1;
+        left = bits::without_lowest(left);
     }
     next
 }
 
-// The walk over the first n mask bits, rising.
-pub fn walk(elements: &mut [u64; 1024], vmr: u64, mtf: bool, stride: u32, vc: usize, n: usize)
-    requires { ⌜ (vc < 16) × (n ≤ 64) ⌝ }
-    ensures { λ r. ⌜ now (elements .exit) ≡ walked vmr mtf stride vc n (now (elements .entry)) ⌝ }
+// The number of ones.
+fn count(which: u64) -> u64
+    ensures { λ r. ⌜ r ≡ ones which ⌝ }
 {
-    let mut next: usize = 0;
-    let mut i: usize = 0;
-    while i < n {
-        next = turn(&mut *elements, vmr, mtf, stride, vc, i, next);
-        i += 1;
-    }
+    u64::count_ones(which) as u64
 }
 
 // IOTA, its one step.
 pub fn iota(
     elements: &mut [u64; 1024],
-    run: Progress,
     instruction: Instruction,
     stride: u64,
-) -> Progress
-    requires { ⌜ (instruction .vc .0 < 16) × (run .control .vlr ≤ 64) ⌝ }
-    ensures { λ r. ⌜ runOf (now (elements .exit)) r ≡ iotaStep instruction stride (runOf (now (elements .entry)) run) ⌝ }
+    mask: u64,
+    vlr: u64,
+    vmr: u64,
+) -> Effect
+    requires { ⌜ (instruction .vc .0 < 16) × (vlr ≤ 64) × (isIota (kindOf (instruction .work)) ≡ true) × (mask ≡ matched vmr (instruction .mtf)) ⌝ }
+    ensures { λ r. ⌜ ((which : ℕ) (p : Progress) → p .control .vlr ≡ vlr → p .control .vmr ≡ vmr → runOf (now (elements .exit)) (effected r p) ≡ doneFor which instruction stride (runOf (now (elements .entry)) p)) ⌝ }
 {
-    let mut control = run.control;
-    let vmr = control.vmr;
-    let vlr = control.vlr;
-    let mtf = instruction.mtf;
-    let vc = instruction.vc.0 as usize;
+    let which = bits::low_bits(mask, vlr);
     let low = (stride % 4294967296) as u32;
-    walk(elements, vmr, mtf, low, vc, vlr as usize);
-    control.vcr = count(vmr, mtf, vlr);
-    Progress {
-        control,
-        recorded: run.recorded,
+    walk(elements, which, low, instruction.vc.0 as usize);
+    Effect {
+        vmr,
+        vcr: count(which),
+        notes: 0,
     }
 }

@@ -1,319 +1,253 @@
-// Works that write elements: one step and one loop for all of them, made fast by constant numbers of the work.
-ghost use mathlib.Core.Path.{_≡_};
-ghost use Prim.Native.Nat.{_<_, _≤_};
-ghost use Rattle.state.specs.Elements.{matches};
-ghost use Rattle.machine.specs.Loops.{lanes, workAt, everywhere, chosenBy, laneWorked, laneStep, laneSteps};
-use crate::run;
+// Works that write elements, for the elements of a set. The short works have a loop each: the work's number
+// is a constant where a loop is called, and the compiler makes one loop for each. All have one body for every
+// element, and a loop that takes every element below a length besides the walk over a set.
+use crate::operand;
 use element;
+use numbers::bits;
+use opcodes::Instruction;
+ghost use mathlib.Core.Path.{_≡_};
+ghost use Prim.Native.Nat.{_<_, _≤_, _-_, _^_};
+ghost use Rattle.numbers.specs.Bits.{lowBits};
+ghost use Rattle.numbers.specs.Rising.{rising, ofOnes};
+ghost use Rattle.opcodes.specs.WorkNumbers.{workNumber};
+ghost use mathlib.Core.Bool.{false};
+ghost use Rattle.machine.specs.Kind.{kindOf, isCompare};
+ghost use Rattle.machine.specs.Loops.{lanes, laneWorked, laneStep, shortAt, floatingAt, workAt};
 
-// The work of one element.
-pub fn one(
+// A short work of one element.
+fn short(
     elements: &mut [u64; 1024],
-    notes: u64,
+    types: u64,
     code: u8,
     exc: bool,
-    field: u64,
-    vmr: u64,
-    mtf: bool,
+    mask: u64,
     a: u64,
     vb: usize,
     vc: usize,
-    register: u64,
     i: usize,
 ) -> u64
     requires { ⌜ (vb < 16) × (vc < 16) × (i < 64) ⌝ }
-    ensures { λ r. ⌜ lanes (now (elements .exit)) r ≡ laneWorked (workAt code exc field vmr mtf) a vb vc register i (lanes (now (elements .entry)) notes) ⌝ }
+    ensures { λ r. ⌜ lanes (now (elements .exit)) r ≡ laneWorked (shortAt code exc mask) a vb vc i (lanes (now (elements .entry)) types) ⌝ }
 {
     let b = elements[vb * 64 + i];
     let to = vc * 64 + i;
-    let matches = ((vmr >> i) % 2 == 1) == mtf;
-    let o = element::result(code, exc, field, matches, a, b, elements[to]);
+    let o = element::short(code, exc, (mask >> i) % 2 == 1, a, b, elements[to]);
     elements[to] = o.value;
-    notes | run::note(register, o.types)
+    types | o.types
 }
 
-// The work of one element, where its mask bit is MTF.
-fn one_masked(
-    elements: &mut [u64; 1024],
-    notes: u64,
-    code: u8,
-    exc: bool,
-    field: u64,
-    vmr: u64,
-    mtf: bool,
-    a: &[u64; 64],
-    vb: usize,
-    vc: usize,
-    register: u64,
-    i: usize,
-) -> u64
-    requires { ⌜ (vb < 16) × (vc < 16) × (i < 64) ⌝ }
-    ensures { λ r. ⌜ lanes (now (elements .exit)) r ≡ laneStep (workAt code exc field vmr mtf) (matches vmr mtf) (now (a .entry)) vb vc register i (lanes (now (elements .entry)) notes) ⌝ }
-{
-    if ((vmr >> i) % 2 == 1) == mtf {
-        one(
-            elements,
-            notes,
-            code,
-            exc,
-            field,
-            vmr,
-            mtf,
-            a[i],
-            vb,
-            vc,
-            register,
-            i,
-        )
-    } else {
-        notes
-    }
-}
-
+// Every element below n.
 fn every(
     elements: &mut [u64; 1024],
     code: u8,
     exc: bool,
-    field: u64,
-    vmr: u64,
-    mtf: bool,
-    a: &[u64; 64],
+    mask: u64,
+    scalar: bool,
+    x: u64,
+    va: usize,
     vb: usize,
     vc: usize,
-    register: u64,
-    count: usize,
-) -> u64
-    requires { ⌜ (vb < 16) × (vc < 16) × (count ≤ 64) ⌝ }
-    ensures { λ r. ⌜ lanes (now (elements .exit)) r ≡ laneSteps (workAt code exc field vmr mtf) everywhere (now (a .entry)) vb vc register count (lanes (now (elements .entry)) 0) ⌝ }
-{
-    let mut notes: u64 = 0;
-    let mut i: usize = 0;
-    while i < count {
-        notes = one(
-            &mut *elements,
-            notes,
-            code,
-            exc,
-            field,
-            vmr,
-            mtf,
-            a[i],
-            vb,
-            vc,
-            register,
-            i,
-        );
-        i += 1;
-    }
-    notes
-}
-
-fn matching(
-    elements: &mut [u64; 1024],
-    code: u8,
-    exc: bool,
-    field: u64,
-    vmr: u64,
-    mtf: bool,
-    a: &[u64; 64],
-    vb: usize,
-    vc: usize,
-    register: u64,
     n: usize,
 ) -> u64
-    requires { ⌜ (vb < 16) × (vc < 16) × (n ≤ 64) ⌝ }
-    ensures { λ r. ⌜ lanes (now (elements .exit)) r ≡ laneSteps (workAt code exc field vmr mtf) (matches vmr mtf) (now (a .entry)) vb vc register n (lanes (now (elements .entry)) 0) ⌝ }
+    requires { ⌜ (va < 16) × (vb < 16) × (vc < 16) × (n ≤ 64) ⌝ }
+    ensures { λ r. ⌜ lanes (now (elements .exit)) r ≡ rising (laneStep (shortAt code exc mask) scalar x va vb vc) n (lanes (now (elements .entry)) 0) ⌝ }
 {
-    let mut notes: u64 = 0;
+    let mut types: u64 = 0;
     let mut i: usize = 0;
     while i < n {
-        notes = one_masked(
-            &mut *elements,
-            notes,
-            code,
-            exc,
-            field,
-            vmr,
-            mtf,
-            a,
-            vb,
-            vc,
-            register,
-            i,
-        );
+        let a = operand::first(&*elements, scalar, x, va, i);
+        types = short(&mut *elements, types, code, exc, mask, a, vb, vc, i);
         i += 1;
     }
-    notes
+    types
 }
 
-fn either(
+// The elements of a set.
+fn chosen(
+    elements: &mut [u64; 1024],
+    code: u8,
+    exc: bool,
+    mask: u64,
+    scalar: bool,
+    x: u64,
+    va: usize,
+    vb: usize,
+    vc: usize,
+    which: u64,
+) -> u64
+    requires { ⌜ (va < 16) × (vb < 16) × (vc < 16) ⌝ }
+    ensures { λ r. ⌜ lanes (now (elements .exit)) r ≡ rising (ofOnes (laneStep (shortAt code exc mask) scalar x va vb vc) which) 64 (lanes (now (elements .entry)) 0) ⌝ }
+{
+    let mut types: u64 = 0;
+    let mut left = which;
+    while left != 0 {
+        let i = bits::lowest(left);
+        let a = operand::first(&*elements, scalar, x, va, i);
+        types = short(&mut *elements, types, code, exc, mask, a, vb, vc, i);
+        left = bits::without_lowest(left);
+    }
+    types
+}
+
+// A floating work of one element.
+fn floating(
+    elements: &mut [u64; 1024],
+    types: u64,
+    code: u8,
+    exc: bool,
+    field: u64,
+    a: u64,
+    vb: usize,
+    vc: usize,
+    i: usize,
+) -> u64
+    requires { ⌜ (vb < 16) × (vc < 16) × (i < 64) ⌝ }
+    ensures { λ r. ⌜ lanes (now (elements .exit)) r ≡ laneWorked (floatingAt code exc field) a vb vc i (lanes (now (elements .entry)) types) ⌝ }
+{
+    let b = elements[vb * 64 + i];
+    let to = vc * 64 + i;
+    let o = element::floating_result(code, exc, field, a, b, elements[to]);
+    elements[to] = o.value;
+    types | o.types
+}
+
+// The elements of a set. The work is chosen for each element, which is little beside a floating work.
+fn floatings(
     elements: &mut [u64; 1024],
     code: u8,
     exc: bool,
     field: u64,
-    on: bool,
-    vmr: u64,
-    mtf: bool,
-    a: &[u64; 64],
+    scalar: bool,
+    x: u64,
+    va: usize,
     vb: usize,
     vc: usize,
-    register: u64,
-    n: usize,
+    which: u64,
 ) -> u64
-    requires { ⌜ (vb < 16) × (vc < 16) × (n ≤ 64) ⌝ }
-    ensures { λ r. ⌜ lanes (now (elements .exit)) r ≡ laneSteps (workAt code exc field vmr mtf) (chosenBy on vmr mtf) (now (a .entry)) vb vc register n (lanes (now (elements .entry)) 0) ⌝ }
+    requires { ⌜ (va < 16) × (vb < 16) × (vc < 16) ⌝ }
+    ensures { λ r. ⌜ lanes (now (elements .exit)) r ≡ rising (ofOnes (laneStep (floatingAt code exc field) scalar x va vb vc) which) 64 (lanes (now (elements .entry)) 0) ⌝ }
 {
-    if on {
-        matching(elements, code, exc, field, vmr, mtf, a, vb, vc, register, n)
-    } else {
-        every(elements, code, exc, field, vmr, mtf, a, vb, vc, register, n)
+    let mut types: u64 = 0;
+    let mut left = which;
+    while left != 0 {
+        let i = bits::lowest(left);
+        let a = operand::first(&*elements, scalar, x, va, i);
+        types = floating(&mut *elements, types, code, exc, field, a, vb, vc, i);
+        left = bits::without_lowest(left);
+    }
+    types
+}
+
+// Every element below n, by the work's number: a constant for each short work.
+fn plain(
+    elements: &mut [u64; 1024],
+    code: u8,
+    exc: bool,
+    field: u64,
+    mask: u64,
+    scalar: bool,
+    x: u64,
+    va: usize,
+    vb: usize,
+    vc: usize,
+    n: usize,
+    which: u64,
+) -> u64
+    requires { ⌜ (va < 16) × (vb < 16) × (vc < 16) × (code ≡ 4 → ⊥) × (code ≡ 13 → ⊥) × (n ≤ 64) × (which ≡ lowBits (2 ^ 64 - 1) n) ⌝ }
+    ensures { λ r. ⌜ lanes (now (elements .exit)) r ≡ rising (ofOnes (laneStep (workAt code exc field mask) scalar x va vb vc) which) 64 (lanes (now (elements .entry)) 0) ⌝ }
+{
+    match code {
+        1 => every(elements, 1, exc, mask, scalar, x, va, vb, vc, n),
+        2 => every(elements, 2, exc, mask, scalar, x, va, vb, vc, n),
+        3 => every(elements, 3, exc, mask, scalar, x, va, vb, vc, n),
+        5 => every(elements, 5, exc, mask, scalar, x, va, vb, vc, n),
+        6 => every(elements, 6, exc, mask, scalar, x, va, vb, vc, n),
+        7 => every(elements, 7, exc, mask, scalar, x, va, vb, vc, n),
+        8 => every(elements, 8, exc, mask, scalar, x, va, vb, vc, n),
+        9 => every(elements, 9, exc, mask, scalar, x, va, vb, vc, n),
+        16 => every(elements, 16, exc, mask, scalar, x, va, vb, vc, n),
+        _ => floatings(elements, code, exc, field, scalar, x, va, vb, vc, which),
     }
 }
 
-// A constant number in each arm: the compiler makes a loop for each. The heavy works share the last arm.
-pub fn all(
+// The elements of a set, likewise.
+fn masked(
     elements: &mut [u64; 1024],
     code: u8,
     exc: bool,
     field: u64,
-    on: bool,
-    vmr: u64,
-    mtf: bool,
-    a: &[u64; 64],
+    mask: u64,
+    scalar: bool,
+    x: u64,
+    va: usize,
     vb: usize,
     vc: usize,
-    register: u64,
-    n: usize,
+    which: u64,
 ) -> u64
-    requires { ⌜ (vb < 16) × (vc < 16) × (n ≤ 64) ⌝ }
-    ensures { λ r. ⌜ lanes (now (elements .exit)) r ≡ laneSteps (workAt code exc field vmr mtf) (chosenBy on vmr mtf) (now (a .entry)) vb vc register n (lanes (now (elements .entry)) 0) ⌝ }
+    requires { ⌜ (va < 16) × (vb < 16) × (vc < 16) × (code ≡ 4 → ⊥) × (code ≡ 13 → ⊥) ⌝ }
+    ensures { λ r. ⌜ lanes (now (elements .exit)) r ≡ rising (ofOnes (laneStep (workAt code exc field mask) scalar x va vb vc) which) 64 (lanes (now (elements .entry)) 0) ⌝ }
 {
     match code {
-        1 => either(
-            elements,
-            1,
-            exc,
-            field,
-            on,
-            vmr,
-            mtf,
-            a,
-            vb,
-            vc,
-            register,
-            n,
-        ),
-        2 => either(
-            elements,
-            2,
-            exc,
-            field,
-            on,
-            vmr,
-            mtf,
-            a,
-            vb,
-            vc,
-            register,
-            n,
-        ),
-        3 => either(
-            elements,
-            3,
-            exc,
-            field,
-            on,
-            vmr,
-            mtf,
-            a,
-            vb,
-            vc,
-            register,
-            n,
-        ),
-        5 => either(
-            elements,
-            5,
-            exc,
-            field,
-            on,
-            vmr,
-            mtf,
-            a,
-            vb,
-            vc,
-            register,
-            n,
-        ),
-        6 => either(
-            elements,
-            6,
-            exc,
-            field,
-            on,
-            vmr,
-            mtf,
-            a,
-            vb,
-            vc,
-            register,
-            n,
-        ),
-        7 => either(
-            elements,
-            7,
-            exc,
-            field,
-            on,
-            vmr,
-            mtf,
-            a,
-            vb,
-            vc,
-            register,
-            n,
-        ),
-        8 => either(
-            elements,
-            8,
-            exc,
-            field,
-            on,
-            vmr,
-            mtf,
-            a,
-            vb,
-            vc,
-            register,
-            n,
-        ),
-        9 => either(
-            elements,
-            9,
-            exc,
-            field,
-            on,
-            vmr,
-            mtf,
-            a,
-            vb,
-            vc,
-            register,
-            n,
-        ),
-        _ => either(
+        1 => chosen(elements, 1, exc, mask, scalar, x, va, vb, vc, which),
+        2 => chosen(elements, 2, exc, mask, scalar, x, va, vb, vc, which),
+        3 => chosen(elements, 3, exc, mask, scalar, x, va, vb, vc, which),
+        5 => chosen(elements, 5, exc, mask, scalar, x, va, vb, vc, which),
+        6 => chosen(elements, 6, exc, mask, scalar, x, va, vb, vc, which),
+        7 => chosen(elements, 7, exc, mask, scalar, x, va, vb, vc, which),
+        8 => chosen(elements, 8, exc, mask, scalar, x, va, vb, vc, which),
+        9 => chosen(elements, 9, exc, mask, scalar, x, va, vb, vc, which),
+        16 => chosen(elements, 16, exc, mask, scalar, x, va, vb, vc, which),
+        _ => floatings(elements, code, exc, field, scalar, x, va, vb, vc, which),
+    }
+}
+
+// The work of the elements of a set. The set of all elements below n, the common one, has loops of its own.
+pub fn over(
+    elements: &mut [u64; 1024],
+    instruction: Instruction,
+    x: u64,
+    mask: u64,
+    which: u64,
+    n: usize,
+) -> u64
+    requires { ⌜ (instruction .va .0 < 16) × (instruction .vb .0 < 16) × (instruction .vc .0 < 16) × (n ≤ 64) × (isCompare (kindOf (instruction .work)) ≡ false) ⌝ }
+    ensures { λ r. ⌜ lanes (now (elements .exit)) r ≡ rising (ofOnes (laneStep (workAt (workNumber (instruction .work)) (instruction .exc) (instruction .va .0) mask) (instruction .scalar) x (instruction .va .0) (instruction .vb .0) (instruction .vc .0)) which) 64 (lanes (now (elements .entry)) 0) ⌝ }
+{
+    let work = instruction.work;
+    let code = element::code(work);
+    let exc = instruction.exc;
+    let scalar = instruction.scalar;
+    let va = instruction.va.0 as usize;
+    let vb = instruction.vb.0 as usize;
+    let vc = instruction.vc.0 as usize;
+    let field = instruction.va.0 as u64;
+    if which == bits::low_bits(18446744073709551615, n as u64) {
+        return plain(
             elements,
             code,
             exc,
             field,
-            on,
-            vmr,
-            mtf,
-            a,
+            mask,
+            scalar,
+            x,
+            va,
             vb,
             vc,
-            register,
             n,
-        ),
+            which,
+        );
     }
+    masked(
+        elements,
+        code,
+        exc,
+        field,
+        mask,
+        scalar,
+        x,
+        va,
+        vb,
+        vc,
+        which,
+    )
 }

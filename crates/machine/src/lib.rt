@@ -1,8 +1,9 @@
 // Register instructions over the lent elements.
+use element;
 use opcodes::Work;
 use state::Control;
 ghost use mathlib.Core.Path.{_≡_};
-ghost use Rattle.machine.specs.Kind.{kindOf};
+ghost use Rattle.machine.specs.Kind.{kindOf, isMerge, isCompare, isIota};
 
 pub mod instruction;
 mod iota;
@@ -26,9 +27,16 @@ pub enum Kind {
     Memory,
 }
 
-// The mask after works that write mask bits, and the notes gathered.
-pub struct Masked {
+// Which elements of a range a compare finds in its relation, and which it refuses: the lowest is bit 0.
+pub struct Found {
+    pub found: u64,
+    pub refused: u64,
+}
+
+// What an instruction leaves of the control record: VMR, VCR, and what VAER gathers.
+pub struct Effect {
     pub vmr: u64,
+    pub vcr: u64,
     pub notes: u64,
 }
 
@@ -57,4 +65,26 @@ pub fn kind_of(work: Work) -> Kind
         Work::StoreLongword => Kind::Memory,
         Work::StoreQuadword => Kind::Memory,
     }
+}
+
+// Merge, which ignores MOE.
+pub fn is_merge(work: Work) -> bool
+    ensures { λ r. ⌜ r ≡ isMerge (kindOf work) ⌝ }
+{
+    element::code(work) == 16
+}
+
+// A compare, which writes mask bits.
+pub fn is_compare(work: Work) -> bool
+    ensures { λ r. ⌜ r ≡ isCompare (kindOf work) ⌝ }
+{
+    let code = element::code(work);
+    (code == 4) | (code == 13)
+}
+
+// IOTA, which is one step.
+pub fn is_iota(work: Work) -> bool
+    ensures { λ r. ⌜ r ≡ isIota (kindOf work) ⌝ }
+{
+    element::code(work) == 15
 }

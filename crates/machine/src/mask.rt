@@ -1,126 +1,149 @@
-// Works that write mask bits: compare.
-use crate::Masked;
-use crate::run;
+// Works that write mask bits: compares. All elements of a range are compared, which changes nothing; then a set says whose bits are
+// replaced.
+use crate::Effect;
+use crate::Found;
+use crate::operand;
+use element;
+use element::Out;
 use numbers::bits;
+use opcodes::Instruction;
 ghost use mathlib.Core.Path.{_≡_};
-ghost use Prim.Native.Nat.{_<_, _≤_};
-ghost use Rattle.machine.specs.Loops.{masked, maskWorked, maskStep, maskSteps};
+ghost use mathlib.Core.Bool.{true};
+ghost use Prim.Native.Nat.{ℕ, _<_, _≤_, _-_, _/_};
+ghost use Rattle.numbers.specs.Bits.{bit};
+ghost use Rattle.machine.specs.declared.Progress.{Progress};
+ghost use Rattle.machine.specs.Kind.{kindOf, isCompare};
+ghost use Rattle.machine.specs.Run.{run as runOf};
+ghost use Rattle.machine.specs.Loops.{comparedAt, oddFrom, effected, doneFor};
 
-// The work of one element.
-pub fn one(
+// The compare of one element.
+fn one(
     elements: &[u64; 1024],
     code: u8,
-    exc: bool,
-    field: u64,
-    mtf: bool,
-    a: u64,
+    relation: u64,
+    scalar: bool,
+    x: u64,
+    va: usize,
     vb: usize,
-    vc: usize,
     i: usize,
-    vmr: u64,
-    notes: u64,
-) -> Masked
-    requires { ⌜ (vb < 16) × (vc < 16) × (i < 64) ⌝ }
-    ensures { λ r. ⌜ r ≡ maskWorked code exc field mtf (now (elements .entry)) a vb vc i (masked vmr notes) ⌝ }
+) -> Out
+    requires { ⌜ (va < 16) × (vb < 16) × (i < 64) ⌝ }
+    ensures { λ r. ⌜ r ≡ comparedAt code relation scalar x va vb (now (elements .entry)) i ⌝ }
 {
-    let matches = ((vmr >> i) % 2 == 1) == mtf;
-    let o = element::result(
+    element::compared(
         code,
-        exc,
-        field,
-        matches,
-        a,
+        relation,
+        operand::first(elements, scalar, x, va, i),
         elements[vb * 64 + i],
-        elements[vc * 64 + i],
-    );
-    Masked {
-        vmr: bits::with_bit(vmr, i, o.value % 2),
-        notes: notes | run::note(0, o.types),
-    }
+    )
 }
 
-// The work of one element, where it is operated on.
-fn step(
+// The elements from `from` on and below `to`, from the highest.
+fn every(
     elements: &[u64; 1024],
     code: u8,
-    exc: bool,
-    field: u64,
-    moe: bool,
-    mtf: bool,
-    a: &[u64; 64],
+    relation: u64,
+    scalar: bool,
+    x: u64,
+    va: usize,
     vb: usize,
-    vc: usize,
-    i: usize,
-    vmr: u64,
-    notes: u64,
-) -> Masked
-    requires { ⌜ (vb < 16) × (vc < 16) × (i < 64) ⌝ }
-    ensures { λ r. ⌜ r ≡ maskStep code exc field moe mtf (now (elements .entry)) (now (a .entry)) vb vc i (masked vmr notes) ⌝ }
+    from: usize,
+    to: usize,
+) -> Found
+    requires { ⌜ (va < 16) × (vb < 16) × (from ≤ to) × (to ≤ 64) ⌝ }
+    ensures found { λ r. ⌜ r .found ≡ oddFrom (λ i. comparedAt code relation scalar x va vb (now (elements .entry)) i .value) from (to - from) ⌝ }
+    ensures refused { λ r. ⌜ r .refused ≡ oddFrom (λ i. comparedAt code relation scalar x va vb (now (elements .entry)) i .types / 4) from (to - from) ⌝ }
 {
-    if !moe | (((vmr >> i) % 2 == 1) == mtf) {
-        one(elements, code, exc, field, mtf, a[i], vb, vc, i, vmr, notes)
-    } else {
-        Masked { vmr, notes }
+    let mut found: u64 = 0;
+    let mut refused: u64 = 0;
+    let mut i = to;
+    while from < i {
+        i -= 1;
+        let o = one(elements, code, relation, scalar, x, va, vb, i);
+        found = found * 2 + o.value % 2;
+        refused = refused * 2 + o.types / 4 % 2;
     }
+    Found { found, refused }
 }
 
-fn steps(
+// Longwords, with a constant for each relation: the compiler makes a loop for each.
+fn longwords(
     elements: &[u64; 1024],
-    code: u8,
-    exc: bool,
-    field: u64,
-    moe: bool,
-    mtf: bool,
-    a: &[u64; 64],
+    relation: u64,
+    scalar: bool,
+    x: u64,
+    va: usize,
     vb: usize,
-    vc: usize,
-    n: usize,
-    vmr: u64,
-) -> Masked
-    requires { ⌜ (vb < 16) × (vc < 16) × (n ≤ 64) ⌝ }
-    ensures { λ r. ⌜ r ≡ maskSteps code exc field moe mtf (now (elements .entry)) (now (a .entry)) vb vc n (masked vmr 0) ⌝ }
+    from: usize,
+    to: usize,
+) -> Found
+    requires { ⌜ (va < 16) × (vb < 16) × (from ≤ to) × (to ≤ 64) ⌝ }
+    ensures found { λ r. ⌜ r .found ≡ oddFrom (λ i. comparedAt 4 relation scalar x va vb (now (elements .entry)) i .value) from (to - from) ⌝ }
+    ensures refused { λ r. ⌜ r .refused ≡ oddFrom (λ i. comparedAt 4 relation scalar x va vb (now (elements .entry)) i .types / 4) from (to - from) ⌝ }
 {
-    let mut s = Masked { vmr, notes: 0 };
-    let mut i: usize = 0;
-    while i < n {
-        s = step(
-            elements,
-            code,
-            exc,
-            field,
-            moe,
-            mtf,
-            a,
-            vb,
-            vc,
-            i,
-            s.vmr,
-            s.notes,
-        );
-        i += 1;
+    match relation {
+        0 => every(elements, 4, 0, scalar, x, va, vb, from, to),
+        1 => every(elements, 4, 1, scalar, x, va, vb, from, to),
+        2 => every(elements, 4, 2, scalar, x, va, vb, from, to),
+        4 => every(elements, 4, 4, scalar, x, va, vb, from, to),
+        5 => every(elements, 4, 5, scalar, x, va, vb, from, to),
+        6 => every(elements, 4, 6, scalar, x, va, vb, from, to),
+        _ => every(elements, 4, relation, scalar, x, va, vb, from, to),
     }
-    s
 }
 
-// A constant number for longword compare: the compiler makes a loop of its own for it.
-pub fn all(
+fn either(
     elements: &[u64; 1024],
     code: u8,
-    exc: bool,
-    field: u64,
-    moe: bool,
-    mtf: bool,
-    a: &[u64; 64],
+    relation: u64,
+    scalar: bool,
+    x: u64,
+    va: usize,
     vb: usize,
-    vc: usize,
-    n: usize,
-    vmr: u64,
-) -> Masked
-    requires { ⌜ (vb < 16) × (vc < 16) × (n ≤ 64) ⌝ }
-    ensures { λ r. ⌜ r ≡ maskSteps code exc field moe mtf (now (elements .entry)) (now (a .entry)) vb vc n (masked vmr 0) ⌝ }
+    from: usize,
+    to: usize,
+) -> Found
+    requires { ⌜ (va < 16) × (vb < 16) × (from ≤ to) × (to ≤ 64) ⌝ }
+    ensures found { λ r. ⌜ r .found ≡ oddFrom (λ i. comparedAt code relation scalar x va vb (now (elements .entry)) i .value) from (to - from) ⌝ }
+    ensures refused { λ r. ⌜ r .refused ≡ oddFrom (λ i. comparedAt code relation scalar x va vb (now (elements .entry)) i .types / 4) from (to - from) ⌝ }
 {
     match code {
-        4 => steps(elements, 4, exc, field, moe, mtf, a, vb, vc, n, vmr),
-        _ => steps(elements, code, exc, field, moe, mtf, a, vb, vc, n, vmr),
+        4 => longwords(elements, relation, scalar, x, va, vb, from, to),
+        _ => every(elements, code, relation, scalar, x, va, vb, from, to),
+    }
+}
+
+// The compares of the elements of a set that lies from `from` on and below `to`.
+pub fn over(
+    elements: &[u64; 1024],
+    instruction: Instruction,
+    x: u64,
+    which: u64,
+    from: usize,
+    to: usize,
+    vmr: u64,
+    vcr: u64,
+) -> Effect
+    requires { ⌜ (instruction .va .0 < 16) × (instruction .vb .0 < 16) × (from < 64) × (from ≤ to) × (to ≤ 64) × (isCompare (kindOf (instruction .work)) ≡ true) ⌝ }
+    requires { ⌜ ((i : ℕ) → bit which i ≡ true → (from ≤ i) × (i < to)) ⌝ }
+    ensures { λ r. ⌜ ((p : Progress) → p .control .vmr ≡ vmr → p .control .vcr ≡ vcr → runOf (now (elements .entry)) (effected r p) ≡ doneFor which instruction x (runOf (now (elements .entry)) p)) ⌝ }
+{
+    let work = instruction.work;
+    let m = either(
+        elements,
+        element::code(work),
+        instruction.vc.0 as u64 % 8,
+        instruction.scalar,
+        x,
+        instruction.va.0 as usize,
+        instruction.vb.0 as usize,
+        from,
+        to,
+    );
+    let refused = (m.refused << from) & which;
+    Effect {
+        vmr: bits::replaced(vmr, m.found << from, which),
+        vcr,
+        notes: if refused == 0 { 0 } else { 4 },
     }
 }

@@ -1,33 +1,13 @@
-// The first operand of an instruction, fetched once: a scalar for every element, or a register.
+// The first operand of an element.
 ghost use mathlib.Core.Path.{_≡_};
-ghost use Prim.Native.Nat.{_*_, _<_};
-ghost use lib.ListN.{replicate};
-ghost use Rattle.machine.specs.Loops.{lanesFrom, sourceOf};
+ghost use Prim.Native.Nat.{_<_};
+ghost use Rattle.machine.specs.Loops.{operandAt};
 
-// The elements of a register.
-fn lane(elements: &[u64; 1024], r: usize) -> [u64; 64]
-    requires { ⌜ r < 16 ⌝ }
-    ensures { λ x. ⌜ x ≡ lanesFrom 64 (now (elements .entry)) (r * 64) ⌝ }
+// A scalar, or the register's element. The element is read in either case: a loop then has no branch.
+pub fn first(elements: &[u64; 1024], scalar: bool, x: u64, va: usize, i: usize) -> u64
+    requires { ⌜ (va < 16) × (i < 64) ⌝ }
+    ensures { λ r. ⌜ r ≡ operandAt scalar x va (now (elements .entry)) i ⌝ }
 {
-    let mut out = [0u64; 64];
-    let mut i: usize = 0;
-    while i < 64 {
-        out[i] = elements[r * 64 + i];
-        i += 1;
-    }
-    out
-}
-
-// A scalar for every element.
-fn spread(s: u64) -> [u64; 64]
-    ensures { λ x. ⌜ x ≡ replicate 64 s ⌝ }
-{
-    [s; 64]
-}
-
-pub fn source(elements: &[u64; 1024], scalar: bool, s: u64, r: usize) -> [u64; 64]
-    requires { ⌜ r < 16 ⌝ }
-    ensures { λ x. ⌜ x ≡ sourceOf (now (elements .entry)) scalar s r ⌝ }
-{
-    if scalar { spread(s) } else { lane(elements, r) }
+    let own = elements[va * 64 + i];
+    if scalar { x } else { own }
 }

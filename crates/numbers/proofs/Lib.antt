@@ -8,4 +8,5 @@ pub mod Places
 pub mod Relations
 pub mod Rising
 pub mod SetBits
+pub mod Sets
 pub mod Tests

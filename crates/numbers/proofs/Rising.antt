@@ -47,3 +47,9 @@ grows f g k n a b h s e = let j : n ≡ n - k + k = omega arith in rw j (on (n -
     on : (m : ℕ) → rising f (m + k) a ≡ rising g (m + k) b
     on zero = let j : 0 + k ≡ k = omega arith in rw j e
     on (suc m) = let j : suc m + k ≡ suc (m + k) = omega arith in rw j (ap (f (m + k)) (on m) ∙ s (m + k) (rising g (m + k) b) (omega arith))
+
+-- steps that J carries over to others
+pub carries : {A B : Type 0} (J : A → B) (f : ℕ → A → A) (g : ℕ → B → B) (n : ℕ) (a : A) → ((i : ℕ) (x : A) → i < n → J (f i x) ≡ g i (J x)) → J (rising f n a) ≡ rising g n (J a)
+unfolding rising
+carries J f g zero a h = refl
+carries J f g (suc n) a h = h n (rising f n a) (omega arith) ∙ ap (g n) (carries J f g n a (λ i x k. h i x (omega arith)))

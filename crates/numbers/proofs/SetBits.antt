@@ -7,15 +7,15 @@ use native.Mathlib.Nat.{pow-suc, one-mul, zero-div, mod-lt, div-eq-of-lt, lt-of-
 use native.Mathlib.Omega.{arith}
 use lib.Bits.{bitAnd, and-step, and-self}
 use lib.Count.{trailingZeros, under, trailing-of-zero}
-use lib.Dec.{ltb}
+use lib.Dec.{eqb, ltb}
 use lib.Pow.{pow-mono, pow-pos}
-use borrow.Author.Tests.{le-ltb}
+use borrow.Author.Tests.{lt-ltb, le-ltb}
 use Rattle.numbers.specs.Bits.{bit, withoutBit, withBit, lowBits, complement, lowestOne, chosen, OnesBelow}
 use Rattle.numbers.specs.Choice.{pick}
 use Rattle.numbers.specs.Rising.{rising, ofOnes}
 use Rattle.numbers.proofs.BitLaws.{digit, digit-zero, digit-suc, bit-is, bit-below, bit-complement, bit-replaced, bit-kept, decEq}
-use Rattle.numbers.proofs.Rising.{starts, settles, grows}
-use Rattle.numbers.proofs.Tests.{below-or-not, pick-true, pick-false}
+use Rattle.numbers.proofs.Rising.{starts, settles, alike, grows, carries}
+use Rattle.numbers.proofs.Tests.{true-not-false, below-or-not, pick-true, pick-false}
 
 -- ---- the lowest one
 
@@ -212,3 +212,83 @@ module _ {A : Type 0} (f : ℕ → A → A) (which n : ℕ) (a₀ : A) where
             still : (j : ℕ) → bit rest j ≡ true → Dec (j ≡ i) → bit which j ≡ true
             still j g (yes p) = subst (λ (k : ℕ). bit which k ≡ true) (sym p) index-one
             still j g (no p) = w .among j (sym (kept left i j p) ∙ ap (λ (x : ℕ). bit x j) is-rest ∙ g)
+
+-- ---- steps of the ones of a set
+
+-- those that J carries over to others
+pub ones-carry : {A B : Type 0} (J : A → B) (f : ℕ → A → A) (g : ℕ → B → B) (which n : ℕ) (a : A) → ((i : ℕ) (x : A) → i < n → J (f i x) ≡ g i (J x))
+    → J (rising (ofOnes f which) n a) ≡ rising (ofOnes g which) n (J a)
+unfolding ofOnes
+ones-carry J f g which n a h = carries J (ofOnes f which) (ofOnes g which) n a (λ i x k. at i x k (bit which i))
+  where
+    at : (i : ℕ) (x : _) → i < n → (t : Bool) → J (pick t (f i x) x) ≡ pick t (g i (J x)) (J x)
+    at i x k true = h i x k
+    at i x k false = refl
+
+-- those that are alike
+pub ones-alike : {A : Type 0} (f g : ℕ → A → A) (which n : ℕ) (a : A) → ((i : ℕ) (x : A) → i < n → f i x ≡ g i x) → rising (ofOnes f which) n a ≡ rising (ofOnes g which) n a
+ones-alike f g which n a h = ones-carry (λ x. x) f g which n a h
+
+module _ {A : Type 0} (f : ℕ → A → A) (a : A) where
+  -- the set of all numbers below n
+  pub all-below : (n which : ℕ) → n ≤ 64 → which ≡ lowBits (2 ^ 64 - 1) n → rising f n a ≡ rising (ofOnes f which) 64 a
+  unfolding ofOnes
+  all-below n which h e =
+      alike f (ofOnes f which) n a (λ i x k. sym (takes i x (is-in i k)))
+      ∙ settles (ofOnes f which) (rising (ofOnes f which) n a) a n 64 h (λ j k _. no-step f which j _ (is-out j k)) refl
+    where
+      takes : (i : ℕ) (x : A) → bit which i ≡ true → ofOnes f which i x ≡ f i x
+      takes i x g = pick-true (bit which i) (f i x) x g
+
+      is : (i : ℕ) → bit which i ≡ (ltb i n && bit (2 ^ 64 - 1) i)
+      is i = ap (λ (x : ℕ). bit x i) e ∙ bit-below (2 ^ 64 - 1) n i
+
+      is-in : (i : ℕ) → i < n → bit which i ≡ true
+      is-in i k = is i ∙ ap₂ (λ (s t : Bool). s && t) (lt-ltb i n k) (bit-complement 64 0 i (omega arith) (omega arith) ∙ ap not (no-bit i))
+
+      is-out : (i : ℕ) → n ≤ i → bit which i ≡ false
+      is-out i k = is i ∙ ap (λ (t : Bool). t && bit (2 ^ 64 - 1) i) (le-ltb i n k)
+
+  -- a set of one number, or of none
+  pub single : (e d : ℕ) → e < 64 → d < 2 → rising (ofOnes f (withBit 0 e d)) 64 a ≡ pick (eqb d 1) (f e a) a
+  unfolding rising ofOnes
+  single e d h small =
+      sym (settles g (g e a) a (suc e) 64 h (λ j k _. no-step f (withBit 0 e d) j _ (other j (λ q. omega arith))) (ap (g e) below))
+      ∙ ap (λ (t : Bool). pick t (f e a) a) (bit-replaced 0 e d small)
+    where
+      g : ℕ → A → A
+      g = ofOnes f (withBit 0 e d)
+
+      other : (j : ℕ) → (j ≡ e → ⊥) → bit (withBit 0 e d) j ≡ false
+      other j q = bit-kept 0 e d small j q ∙ no-bit j
+
+      below : a ≡ rising g e a
+      below = settles g a a 0 e (omega arith) (λ j _ k. no-step f (withBit 0 e d) j a (other j (λ q. omega arith))) (starts g a)
+
+-- the next one is above the one that is taken
+pub rises : (left : ℕ) → 0 < left → left < 2 ^ 64 → lowestOne left < lowestOne (withoutBit left (lowestOne left))
+rises left some narrow = at (below-or-not 0 rest)
+  where
+    i : ℕ
+    i = lowestOne left
+
+    rest : ℕ
+    rest = withoutBit left i
+
+    here : Lowest left i
+    here = lowest 64 left some narrow
+
+    at : (0 < rest) ⊎ (rest ≤ 0) → i < lowestOne rest
+    at (inr h) = let e : rest ≡ 0 = omega arith in rw (e, trailing-of-zero 64) (inside left i here 64 narrow)
+    at (inl h) =
+        let g : rest < left = less left i here some in
+        let next : Lowest rest (lowestOne rest) = lowest 64 rest h (omega arith) in
+        higher (lowestOne rest) next (below-or-not i (lowestOne rest))
+      where
+        higher : (j : ℕ) → Lowest rest j → (i < j) ⊎ (j ≤ i) → i < j
+        higher j next (inl k) = k
+        higher j next (inr k) = absurd (clash (decEq j i))
+          where
+            clash : Dec (j ≡ i) → ⊥
+            clash (yes q) = true-not-false (sym (gone left i) ∙ ap (bit rest) (sym q) ∙ bit-is rest j 1 (next .one))
+            clash (no q) = let z : digit left j ≡ 0 = here .zeros j (omega arith) in true-not-false (sym (bit-is left j 0 z) ∙ sym (kept left i j q) ∙ bit-is rest j 1 (next .one))

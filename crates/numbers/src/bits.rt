@@ -1,6 +1,7 @@
 // Single bits of 64.
 ghost use mathlib.Core.Path.{_≡_};
-ghost use Prim.Native.Nat.{_<_, _≤_};
+ghost use Prim.Native.Nat.{ℕ, _<_, _≤_};
+ghost use Rattle.numbers.specs.Choice.{pick};
 ghost use Rattle.numbers.specs.Bits.{bit as bitOf, withoutBit, withBit, lowBits, lowestOne, chosen, OnesBelow};
 
 // Bit i is one.
@@ -55,4 +56,11 @@ pub fn chosen_below(masked: bool, asked: bool, mask: u64, n: u64) -> u64
         return low_bits(!mask, n);
     }
     low_bits(18446744073709551615, n)
+}
+
+// x with the bits of a set replaced by y's.
+pub fn replaced(x: u64, y: u64, which: u64) -> u64
+    ensures { λ r. ⌜ ((i : ℕ) → bitOf r i ≡ pick (bitOf which i) (bitOf y i) (bitOf x i)) ⌝ }
+{
+    (x & !which) | (y & which)
 }

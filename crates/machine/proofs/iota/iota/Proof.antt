@@ -1,14 +1,18 @@
--- `iota::iota` meets its contract. Assumes nothing.
+use mathlib.Core.Path.{refl, sym, ap, _∙_}
+use Rattle.numbers.specs.Bits.{lowBits}
 use Rattle.machine.proofs.IotaLaws.{stepped}
 use borrow.Author.Needs.{needs}
 use Rattle.machine.proofs.iota.iota.Statement.{statement}
 use Rattle.machine.proofs.iota.iota.Tie as tie
 
-cast-vc : tie.Need-cast-vc
-cast-vc c = search needs
+low-bits-requires : tie.Need-low-bits-requires
+low-bits-requires c κs = search needs
 
 cast-low : tie.Need-cast-low
 cast-low c = search needs
+
+cast-walk : tie.Need-cast-walk
+cast-walk c = search needs
 
 walk-requires : tie.Need-walk-requires
 walk-requires c κs = search needs
@@ -17,7 +21,9 @@ count-requires : tie.Need-count-requires
 count-requires c κs = search needs
 
 returns : tie.Need-returns
-returns c = search (stepped, needs)
+returns c = λ which p e f.
+    stepped _ _ _ which _ _ p _ _ _ (c .before .before .before .before .before .pre .2) (rw f (search needs)) (rw e (search needs)) (rw (e, f) (c .before .before .before .before .low-bits .ensures ∙ ap (λ m. lowBits m (c .before .before .before .before .before .args .vlr)) (c .before .before .before .before .before .pre .3))) refl (c .before .walk .ensures) (sym f) (c .count .ensures) refl
 
 pub iota-spec : {M : Type 1} → statement M
-iota-spec = tie.close (tie.spec cast-vc cast-low walk-requires count-requires returns)
+iota-spec =
+    tie.close (tie.spec low-bits-requires cast-low cast-walk walk-requires count-requires returns)

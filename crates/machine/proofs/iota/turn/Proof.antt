@@ -1,11 +1,6 @@
--- `iota::turn` meets its contract. Assumes nothing.
-use Rattle.machine.proofs.IotaLaws.{writes, moves, keeps, stays}
 use borrow.Author.Needs.{needs}
 use Rattle.machine.proofs.iota.turn.Statement.{statement}
 use Rattle.machine.proofs.iota.turn.Tie as tie
-
-bit-requires : tie.Need-bit-requires
-bit-requires c κs = search needs
 
 mul-to : tie.Need-mul-to
 mul-to c = search needs
@@ -31,20 +26,13 @@ mul-elements c = search needs
 element-write-elements : tie.Need-element-write-elements
 element-write-elements c = search needs
 
-add-result : tie.Need-add-result
-add-result c = search needs
-
 returns : tie.Need-returns
-returns c = search (writes, moves, needs)
-
-returns-2 : tie.Need-returns-2
-returns-2 c = search (keeps, stays, needs)
+returns c = rw (c .with-low .ensures, c .before .multiple .ensures)
 
 pub turn-spec : {M : Type 1} → statement M
 turn-spec =
     tie.close
     (tie.spec
-    bit-requires
     mul-to
     add-to
     mul-with-low
@@ -53,6 +41,4 @@ turn-spec =
     with-low-requires
     mul-elements
     element-write-elements
-    add-result
-    returns
-    returns-2)
+    returns)

@@ -1,39 +1,50 @@
--- `iota::walk` meets its contract. The invariant: the elements are those after the walk over the first i mask bits, and `next` is the number of those
--- that match. Assumes nothing.
-use mathlib.Core.Path.{_≡_}
-use Prim.Native.Nat.{_≤_, _-_}
+use native.Mathlib.Omega.{arith}
 use borrow.Author.Needs.{needs}
-use Rattle.machine.specs.Iota.{matching, walked}
-use Rattle.machine.proofs.IotaLaws.{next-le, counts-on, walks, walk-ends}
+use Rattle.machine.proofs.IotaLaws.{Going, begins, finishes, inside, has-room, fewer, goes}
 use Rattle.machine.proofs.iota.walk.Statement.{statement}
 use Rattle.machine.proofs.iota.walk.Tie as tie
 
 abbrev Inv-loop : tie.InvT-loop
-Inv-loop elements₀ vmr mtf stride vc n next₀ i₀ elements next i = (i ≤ n) × (next ≡ matching vmr mtf i) × (elements ≡ walked vmr mtf stride vc i elements₀)
+Inv-loop elements₀ which stride vc next₀ left₀ elements next left = Going stride vc which elements₀ left elements next
 
 abbrev μ-loop : tie.MeasureT-loop
-μ-loop elements₀ vmr mtf stride vc n next₀ i₀ elements next i = n - i
+μ-loop elements₀ which stride vc next₀ left₀ elements next left = left
 
 loop-holds : tie.Need-loop-holds Inv-loop μ-loop
-unfolding matching walked
-loop-holds c = search needs
+loop-holds c = search (begins, needs)
+
+lowest-requires : tie.Need-lowest-requires Inv-loop μ-loop
+lowest-requires c κs = search needs
 
 turn-requires : tie.Need-turn-requires Inv-loop μ-loop
-turn-requires c κs = search (next-le, needs)
+turn-requires c κs = let b = inside _ _ _ _ _ _ _ (c .before .before .before .loop .inv) _ (omega arith) (c .before .before .before .loop .inv .0 .small) (c .lowest .ensures) in let n = has-room _ _ _ _ _ _ _ (c .before .before .before .loop .inv) _ (omega arith) (c .before .before .before .loop .inv .0 .small) (c .lowest .ensures) in search needs
 
-add-i : tie.Need-add-i Inv-loop μ-loop
-add-i c = search needs
+add-next : tie.Need-add-next Inv-loop μ-loop
+add-next c = let n = has-room _ _ _ _ _ _ _ (c .before .before .before .before .loop .inv) _ (omega arith) (c .before .before .before .before .loop .inv .0 .small) (c .before .lowest .ensures) in search needs
+
+without-lowest-requires : tie.Need-without-lowest-requires Inv-loop μ-loop
+without-lowest-requires c κs = search needs
 
 loop-less : tie.Need-loop-less Inv-loop μ-loop
-loop-less c = search needs
+loop-less c = fewer _ _ _ _ _ _ _ (c .before .before .before .before .before .loop .inv) _ (omega arith) (c .before .before .before .before .before .loop .inv .0 .small) (c .before .before .lowest .ensures) _ (c .without-lowest .ensures)
 
 loop-again : tie.Need-loop-again Inv-loop μ-loop
-loop-again c = search (counts-on, walks, needs)
+loop-again c = goes _ _ _ _ _ _ _ (c .before .before .before .before .before .loop .inv) _ (omega arith) (c .before .before .before .before .before .loop .inv .0 .small) (c .before .before .lowest .ensures) _ (c .without-lowest .ensures) _ (c .before .turn .ensures)
 
 returns : tie.Need-returns Inv-loop μ-loop
-returns c = search (walk-ends, needs)
+returns c = finishes _ _ _ _ _ _ _ (c .before .loop .inv) (c .loop-test .left)
 
 pub walk-spec : {M : Type 1} → statement M
 walk-spec =
     tie.close
-    (tie.spec Inv-loop μ-loop loop-holds turn-requires add-i loop-less loop-again returns)
+    (tie.spec
+    Inv-loop
+    μ-loop
+    loop-holds
+    lowest-requires
+    turn-requires
+    add-next
+    without-lowest-requires
+    loop-less
+    loop-again
+    returns)

@@ -1,0 +1,61 @@
+-- The works of one element in three groups, each done by a function of its own: integer, logical and shift works and merge, which are short; compares; and the others. No public promise cites
+-- this.
+use mathlib.Core.List.{[], _∷_}
+use Prim.Native.Nat.{ℕ}
+use lib.Dec.{eqb}
+use lib.ListN.{getD}
+use Rattle.numbers.specs.Choice.{pick}
+use Rattle.opcodes.specs.declared.Work.{Work}
+use Rattle.opcodes.specs.declared.Work.the-variants.{AddLongword, SubtractLongword, MultiplyLongword, CompareLongword, BitSet, ExclusiveOr, BitClear, ShiftRight, ShiftLeft, AddF, SubtractF, MultiplyF, CompareF, Convert, Iota, Merge}
+
+-- the short work of a number; Iota, which leaves an element as it was, stands for none
+unfoldable pub shortWork : ℕ → Work
+shortWork n =
+    getD
+    (Iota
+    ∷ AddLongword
+    ∷ SubtractLongword
+    ∷ MultiplyLongword
+    ∷ Iota
+    ∷ BitSet
+    ∷ ExclusiveOr
+    ∷ BitClear
+    ∷ ShiftRight
+    ∷ ShiftLeft
+    ∷ Iota
+    ∷ Iota
+    ∷ Iota
+    ∷ Iota
+    ∷ Iota
+    ∷ Iota
+    ∷ Merge
+    ∷ [])
+    n
+    Iota
+
+-- the floating work of a number, likewise
+unfoldable pub floatingWork : ℕ → Work
+floatingWork n =
+    getD
+    (Iota
+    ∷ Iota
+    ∷ Iota
+    ∷ Iota
+    ∷ Iota
+    ∷ Iota
+    ∷ Iota
+    ∷ Iota
+    ∷ Iota
+    ∷ Iota
+    ∷ AddF
+    ∷ SubtractF
+    ∷ MultiplyF
+    ∷ Iota
+    ∷ Convert
+    ∷ [])
+    n
+    Iota
+
+-- the compare of a number
+abbrev pub compareWork : ℕ → Work
+compareWork n = pick (eqb n 4) CompareLongword CompareF

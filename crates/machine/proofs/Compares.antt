@@ -1,0 +1,324 @@
+-- The loop over a range of compares, and what it makes of the mask. Assumes nothing.
+use mathlib.Core.Path.{_≡_, refl, sym, ap, ap₂, subst, _∙_}
+use mathlib.Core.Bool.{Bool, true, false, not, _||_, _&&_}
+use mathlib.Core.Logic.{_⊎_, inl, inr}
+use mathlib.Core.List.{List}
+use Prim.Native.Nat.{ℕ, zero, suc, _+_, _-_, _*_, _/_, _%_, _^_, _≤_, _<_}
+use native.Mathlib.Nat.{pow-suc, mod-lt, lt-of-lt-of-le}
+use native.Mathlib.Omega.{arith}
+use borrow.Author.Tests.{lt-ltb, le-ltb, ltb-true, eqb-true, eq-eqb, ne-eqb}
+use lib.Dec.{eqb, ltb}
+use lib.Bits.{bitOr, bitAnd, or-zero-l, or-zero-r, or-self}
+use lib.Pow.{pow-mono, pow-pos, shl-exact}
+use Rattle.numbers.specs.Choice.{pick}
+use Rattle.numbers.specs.Bits.{bit, withBit}
+use Rattle.numbers.specs.Rising.{rising, ofOnes}
+use Rattle.numbers.proofs.BitLaws.{digit-suc, digit-zero, bit-is, bit-kept, bit-replaced, decEq}
+use Rattle.numbers.proofs.Sets.{same-bits, bit-and, bit-none, bit-moved}
+use Rattle.numbers.proofs.SetBits.{ones-carry}
+use Rattle.numbers.proofs.Tests.{true-not-false, below-or-not, and-left, and-right, pick-true, pick-false}
+use Rattle.state.specs.State.{placeOf}
+use Rattle.state.specs.Elements.{at, matches}
+use Rattle.opcodes.specs.declared.Work.{Work}
+use Rattle.opcodes.specs.declared.Instruction.{Instruction}
+use Rattle.opcodes.specs.WorkNumbers.{workNumber}
+use Rattle.element.specs.declared.Out.{Out}
+use Rattle.element.specs.Receives.{resultOf}
+use Rattle.element.specs.Groups.{compareWork}
+use Rattle.element.proofs.Codes.{compare-ignores, compare-types}
+use Rattle.machine.specs.declared.Effect.{Effect}
+use Rattle.machine.specs.declared.Kind.{Kind}
+use Rattle.machine.specs.declared.Kind.the-variants as kind
+use Rattle.machine.specs.declared.Progress.{Progress}
+use Rattle.machine.specs.Kind.{kindOf, isCompare, isIota}
+use Rattle.machine.specs.Run.{Run, run, progress, withVmr, withVcr, gathered}
+use Rattle.machine.specs.Step.{fieldOf, first, received, registerBit, notes, written, recorded, worked}
+use Rattle.machine.specs.Iota.{iotaStep}
+use Rattle.machine.specs.Loops.{comparedAt, oddFrom, effected, doneFor}
+use Rattle.machine.proofs.Gather.{gathered-twice, gathered-none}
+use Rattle.machine.proofs.WorkKinds.{is-compare}
+
+-- ---- the set that the loop makes
+pub odd-small : (v : ℕ → ℕ) (i n : ℕ) → oddFrom v i n < 2 ^ n
+unfolding oddFrom
+odd-small v i zero = omega arith
+odd-small v i (suc n) =
+    let p : 2 ^ suc n ≡ 2 ^ n * 2 = pow-suc 2 n in
+    let g : oddFrom v (suc i) n < 2 ^ n = odd-small v (suc i) n in
+    omega arith
+
+lower : (x d : ℕ) → d < 2 → bit (x * 2 + d) 0 ≡ eqb d 1
+lower x d h = bit-is (x * 2 + d) 0 d (digit-zero (x * 2 + d) ∙ omega arith)
+
+higher : (x d k : ℕ) → d < 2 → bit (x * 2 + d) (suc k) ≡ bit x k
+higher x d k h = ap (λ (e : ℕ). eqb e 1) (sym (digit-suc (x * 2 + d) k)) ∙ ap (λ (y : ℕ). bit y k) half
+  where
+    half : (x * 2 + d) / 2 ≡ x
+    half = omega arith
+
+pub odd-bit : (v : ℕ → ℕ) (i n k : ℕ) → k < n → bit (oddFrom v i n) k ≡ eqb (v (i + k) % 2) 1
+unfolding oddFrom
+odd-bit v i zero k h = absurd (omega arith)
+odd-bit v i (suc n) zero h =
+    lower (oddFrom v (suc i) n) (v i % 2) (mod-lt (v i) (omega arith))
+    ∙ ap (λ (j : ℕ). eqb (v j % 2) 1) same
+  where
+    same : i ≡ i + 0
+    same = omega arith
+odd-bit v i (suc n) (suc k) h =
+    higher (oddFrom v (suc i) n) (v i % 2) k (mod-lt (v i) (omega arith))
+    ∙ odd-bit v (suc i) n k (omega arith)
+    ∙ ap (λ (j : ℕ). eqb (v j % 2) 1) same
+  where
+    same : suc i + k ≡ i + suc k
+    same = omega arith
+
+-- the set moved up to where it belongs
+pub odd-moved : (v : ℕ → ℕ) (from to : ℕ) → from ≤ to → to ≤ 64 → (k : ℕ) → from ≤ k → k < to → bit (oddFrom v from (to - from) * 2 ^ from % 2 ^ 64) k ≡ eqb (v k % 2) 1
+odd-moved v from to h g k low high =
+    ap (λ (x : ℕ). bit x k) (shl-exact {a = oddFrom v from (to - from)} (to - from) from 64 (odd-small v from (to - from)) (omega arith))
+    ∙ ap (bit (oddFrom v from (to - from) * 2 ^ from)) at-k
+    ∙ bit-moved (oddFrom v from (to - from)) from (k - from)
+    ∙ odd-bit v from (to - from) (k - from) (omega arith)
+    ∙ ap (λ (j : ℕ). eqb (v j % 2) 1) (sym at-k)
+  where
+    at-k : k ≡ from + (k - from)
+    at-k = omega arith
+
+-- ---- the loop, from the highest element down
+pub nothing : (v : ℕ → ℕ) (to : ℕ) → 0 ≡ oddFrom v to (to - to)
+unfolding oddFrom
+nothing v to = ap (oddFrom v to) none
+  where
+    none : 0 ≡ to - to
+    none = omega arith
+
+module _ (v : ℕ → ℕ) (i to : ℕ) (set : ℕ) (is : set ≡ oddFrom v i (to - i)) where
+  -- there is room for one more
+  pub room : 0 < i → to ≤ 64 → set < 2 ^ 63
+  room h g =
+      let e = odd-small v i (to - i) in
+      let m : 2 ^ (to - i) ≤ 2 ^ 63 = pow-mono {j = 63} (omega arith) in
+      omega arith
+
+  pub done : (from : ℕ) → from ≤ i → i ≤ from → set ≡ oddFrom v from (to - from)
+  done from h g = let e : i ≡ from = omega arith in is ∙ ap (λ (j : ℕ). oddFrom v j (to - j)) e
+
+  pub one-more : (j : ℕ) → j ≡ i - 1 → 0 < i → i ≤ to → set * 2 + v j % 2 ≡ oddFrom v j (to - j)
+  unfolding oddFrom
+  one-more j e h g =
+      ap (λ (x : ℕ). x * 2 + v j % 2) (is ∙ ap (λ (k : ℕ). oddFrom v k (to - i)) up)
+      ∙ ap (oddFrom v j) count
+    where
+      up : i ≡ suc j
+      up = omega arith
+
+      count : suc (to - i) ≡ to - j
+      count = omega arith
+
+-- ---- the mask, as the compares of a set leave it
+no-iota : (k : Kind) → isCompare k ≡ true → isIota k ≡ false
+no-iota kind.Element e = refl
+no-iota kind.Merge e = refl
+no-iota kind.Compare e = refl
+no-iota kind.Iota e = sym e
+no-iota kind.Memory e = refl
+
+record Marks : Type 0 where
+  vmr : ℕ
+  types : ℕ
+
+abbrev marks : ℕ → ℕ → Marks
+marks v t = record { vmr = v; types = t }
+
+module _ (ins : Instruction) (x which : ℕ) (l : List ℕ) (p : Progress) (compare : isCompare (kindOf (ins .work)) ≡ true) where
+  abbrev pub out : ℕ → Out
+  out i = comparedAt (workNumber (ins .work)) (ins .vc .0 % 8) (ins .scalar) x (ins .va .0) (ins .vb .0) l i
+
+  abbrev mark : ℕ → Marks → Marks
+  mark i m = marks (withBit (m .vmr) i (out i .value % 2)) (bitOr (m .types) (notes 0 (out i .types)))
+
+  -- the run, where the steps have come to m
+  abbrev joined : Marks → Run
+  joined m = run l (gathered (m .types) (progress (withVmr (p .control) (m .vmr)) (p .recorded)))
+
+  module _ (i : ℕ) (m : Marks) where
+    receives : received ins x i (joined m) ≡ out i
+    unfolding received gathered
+    receives =
+        ap (λ (f : ℕ). resultOf (ins .work) (ins .exc) f (matches (m .vmr) (ins .mtf) i) (first ins x l i) (at l (ins .vb .0) i) (at l (ins .vc .0) i))
+        (ap (λ (t : Bool). pick t (ins .vc .0 % 8) (ins .va .0)) compare)
+        ∙ ap (λ (w : Work). resultOf w (ins .exc) (ins .vc .0 % 8) (matches (m .vmr) (ins .mtf) i) (first ins x l i) (at l (ins .vb .0) i) (at l (ins .vc .0) i))
+        (sym (is-compare (ins .work) compare))
+        ∙ sym (compare-ignores (workNumber (ins .work)) (ins .exc) (ins .vc .0 % 8) (matches (m .vmr) (ins .mtf) i) (first ins x l i) (at l (ins .vb .0) i) (at l (ins .vc .0) i))
+
+    writes : (v : ℕ) → written ins i v (joined m) ≡ run l (gathered (m .types) (progress (withVmr (p .control) (withBit (m .vmr) i (v % 2))) (p .recorded)))
+    unfolding written gathered
+    writes v = rw compare
+
+    one : joined (mark i m) ≡ worked ins x i (joined m)
+    unfolding worked
+    one =
+        sym
+        (ap (λ (o : Out). recorded (notes (registerBit (isCompare (kindOf (ins .work))) (ins .vc .0)) (o .types)) (written ins i (o .value) (joined m))) receives
+        ∙ ap (λ (t : Bool). recorded (notes (registerBit t (ins .vc .0)) (out i .types)) (written ins i (out i .value) (joined m))) compare
+        ∙ ap (recorded (notes 0 (out i .types))) (writes (out i .value))
+        ∙ ap (run l) (gathered-twice (m .types) (notes 0 (out i .types)) (progress (withVmr (p .control) (withBit (m .vmr) i (out i .value % 2))) (p .recorded))))
+
+  abbrev after : ℕ → Marks
+  after n = rising (ofOnes mark which) n (marks (p .control .vmr) 0)
+
+  all : joined (after 64) ≡ rising (ofOnes (worked ins x) which) 64 (run l p)
+  all =
+      ones-carry joined mark (worked ins x) which 64 (marks (p .control .vmr) 0) (λ i m _. one i m)
+      ∙ ap (λ (q : Progress). rising (ofOnes (worked ins x) which) 64 (run l q)) (gathered-none p)
+
+  -- bit k of the mask
+  bits : (n k : ℕ) → bit (after n .vmr) k ≡ pick (ltb k n && bit which k) (eqb (out k .value % 2) 1) (bit (p .control .vmr) k)
+  unfolding rising ofOnes
+  bits zero k = sym (pick-false (ltb k 0 && bit which k) _ _ (ap (λ (t : Bool). t && bit which k) (le-ltb k 0 (omega arith))))
+  bits (suc n) k = at (bit which n) refl (decEq k n) (bits n k)
+    where
+      Before : Type 0
+      Before = bit (after n .vmr) k ≡ pick (ltb k n && bit which k) (eqb (out k .value % 2) 1) (bit (p .control .vmr) k)
+
+      older : (k ≡ n → ⊥) → ltb k (suc n) ≡ ltb k n
+      older q = go (below-or-not k n)
+        where
+          go : (k < n) ⊎ (n ≤ k) → ltb k (suc n) ≡ ltb k n
+          go (inl h) = lt-ltb k (suc n) (omega arith) ∙ sym (lt-ltb k n h)
+          go (inr h) = le-ltb k (suc n) (omega arith) ∙ sym (le-ltb k n h)
+
+      kept : Before → (k ≡ n → ⊥) → bit (after n .vmr) k ≡ pick (ltb k (suc n) && bit which k) (eqb (out k .value % 2) 1) (bit (p .control .vmr) k)
+      kept b q = b ∙ ap (λ (t : Bool). pick (t && bit which k) (eqb (out k .value % 2) 1) (bit (p .control .vmr) k)) (sym (older q))
+
+      at : (t : Bool) → bit which n ≡ t → Dec (k ≡ n) → Before → bit (pick t (mark n (after n)) (after n) .vmr) k ≡ pick (ltb k (suc n) && bit which k) (eqb (out k .value % 2) 1) (bit (p .control .vmr) k)
+      at true e (yes q) b =
+          ap (bit (withBit (after n .vmr) n (out n .value % 2))) q
+          ∙ bit-replaced (after n .vmr) n (out n .value % 2) (mod-lt (out n .value) (omega arith))
+          ∙ ap (λ (j : ℕ). eqb (out j .value % 2) 1) (sym q)
+          ∙ sym (pick-true (ltb k (suc n) && bit which k) _ _ (ap₂ (λ (s u : Bool). s && u) (lt-ltb k (suc n) (omega arith)) (ap (bit which) q ∙ e)))
+      at true e (no q) b = bit-kept (after n .vmr) n (out n .value % 2) (mod-lt (out n .value) (omega arith)) k q ∙ kept b q
+      at false e (yes q) b =
+          b
+          ∙ pick-false (ltb k n && bit which k) _ _ (ap (λ (t : Bool). t && bit which k) (le-ltb k n (omega arith)))
+          ∙ sym (pick-false (ltb k (suc n) && bit which k) _ _ (ap₂ (λ (s u : Bool). s && u) (lt-ltb k (suc n) (omega arith)) (ap (bit which) q ∙ e)))
+      at false e (no q) b = kept b q
+
+  -- none of the elements of the set below n was refused
+  abbrev refuses : ℕ → Bool
+  refuses k = eqb (out k .types / 4 % 2) 1
+
+  none : ℕ → Bool
+  none zero = true
+  none (suc n) = none n && not (bit which n && refuses n)
+
+  types : (n : ℕ) → after n .types ≡ pick (none n) 0 4
+  unfolding rising ofOnes notes none
+  types zero = refl
+  types (suc n) = at (bit which n) (types n)
+    where
+      joins : (s : Bool) (t : ℕ) → (t ≡ 0) ⊎ (t ≡ 4) → bitOr (pick s 0 4) (pick (eqb t 0) 0 (bitOr t 0)) ≡ pick (s && not (eqb (t / 4 % 2) 1)) 0 4
+      joins true t (inl e) = rw e refl
+      joins true t (inr e) = rw e refl
+      joins false t (inl e) = rw e refl
+      joins false t (inr e) = rw e refl
+
+      stays : (s : Bool) → _≡_ {A = ℕ} (pick s 0 4) (pick (s && true) 0 4)
+      stays true = refl
+      stays false = refl
+
+      at : (t : Bool) → after n .types ≡ pick (none n) 0 4 → (pick t (mark n (after n)) (after n)) .types ≡ pick (none n && not (t && refuses n)) 0 4
+      at true b = ap (λ (y : ℕ). bitOr y (notes 0 (out n .types))) b ∙ joins (none n) (out n .types) (compare-types (workNumber (ins .work)) _ _ _)
+      at false b = b ∙ stays (none n)
+
+  module _ (r : ℕ) (is : (k : ℕ) → bit r k ≡ (bit which k && refuses k)) (short : (k : ℕ) → bit which k ≡ true → k < 64) where
+    empty : (n : ℕ) → r ≡ 0 → none n ≡ true
+    unfolding none
+    empty zero e = refl
+    empty (suc n) e = ap₂ (λ (s t : Bool). s && not t) (empty n e) (sym (is n) ∙ ap (λ (y : ℕ). bit y n) e ∙ bit-none n)
+
+    not-true : (t : Bool) → not t ≡ true → t ≡ false
+    not-true true e = sym e
+    not-true false e = refl
+
+    all-false : (n : ℕ) → none n ≡ true → (k : ℕ) → k < n → bit r k ≡ false
+    unfolding none
+    all-false zero e k h = absurd (omega arith)
+    all-false (suc n) e k h = go (all-false n (and-left (none n) (not (bit which n && refuses n)) e) k) (decEq k n)
+      where
+        go : (k < n → bit r k ≡ false) → Dec (k ≡ n) → bit r k ≡ false
+        go b (yes q) = ap (bit r) q ∙ is n ∙ not-true (bit which n && refuses n) (and-right (none n) (not (bit which n && refuses n)) e)
+        go b (no q) = b (omega arith)
+
+    past : (k : ℕ) → 64 ≤ k → bit r k ≡ false
+    past k h = is k ∙ go (bit which k) refl
+      where
+        go : (t : Bool) → bit which k ≡ t → (t && refuses k) ≡ false
+        go true e = absurd (let g = short k e in omega arith)
+        go false e = refl
+
+    none-is : none 64 ≡ eqb r 0
+    none-is = go (none 64) refl (decEq r 0)
+      where
+        go : (t : Bool) → none 64 ≡ t → Dec (r ≡ 0) → t ≡ eqb r 0
+        go t e (yes q) = sym e ∙ empty 64 q ∙ sym (eq-eqb r 0 q)
+        go true e (no q) = absurd (q (same-bits r 0 (λ k. at k (below-or-not k 64) ∙ sym (bit-none k))))
+          where
+            at : (k : ℕ) → (k < 64) ⊎ (64 ≤ k) → bit r k ≡ false
+            at k (inl h) = all-false 64 e k h
+            at k (inr h) = past k h
+        go false e (no q) = sym (ne-eqb r 0 q)
+
+  -- what the loop found and refused, from `from` on and below `to`
+  module _ (from to found refused : ℕ) (e : Effect) (ordered : from ≤ to) (short : to ≤ 64)
+      (inside : (i : ℕ) → bit which i ≡ true → (from ≤ i) × (i < to))
+      (is-found : found ≡ oddFrom (λ i. out i .value) from (to - from))
+      (is-refused : refused ≡ oddFrom (λ i. out i .types / 4) from (to - from))
+      (is-vmr : (k : ℕ) → bit (e .vmr) k ≡ pick (bit which k) (bit (found * 2 ^ from % 2 ^ 64) k) (bit (p .control .vmr) k))
+      (is-vcr : e .vcr ≡ p .control .vcr)
+      (is-notes : e .notes ≡ pick (eqb (bitAnd (refused * 2 ^ from % 2 ^ 64) which) 0) 0 4)
+    where
+      moved : (set : ℕ) (v : ℕ → ℕ) → set ≡ oddFrom v from (to - from) → (k : ℕ) → bit which k ≡ true → bit (set * 2 ^ from % 2 ^ 64) k ≡ eqb (v k % 2) 1
+      moved set v q k g =
+          ap (λ (s : ℕ). bit (s * 2 ^ from % 2 ^ 64) k) q
+          ∙ odd-moved v from to ordered short k (inside k g .0) (inside k g .1)
+
+      same-mask : e .vmr ≡ after 64 .vmr
+      same-mask = same-bits (e .vmr) (after 64 .vmr) (λ k. is-vmr k ∙ at k (bit which k) refl ∙ sym (bits 64 k))
+        where
+          at : (k : ℕ) (t : Bool) → bit which k ≡ t → pick t (bit (found * 2 ^ from % 2 ^ 64) k) (bit (p .control .vmr) k) ≡ pick (ltb k 64 && bit which k) (eqb (out k .value % 2) 1) (bit (p .control .vmr) k)
+          at k true g =
+              moved found (λ i. out i .value) is-found k g
+              ∙ sym (pick-true (ltb k 64 && bit which k) _ _ (ap₂ (λ (s u : Bool). s && u) (lt-ltb k 64 (let h = inside k g .1 in omega arith)) g))
+          at k false g = sym (pick-false (ltb k 64 && bit which k) _ _ (ap (λ (u : Bool). ltb k 64 && u) g ∙ none-of (ltb k 64)))
+            where
+              none-of : (s : Bool) → (s && false) ≡ false
+              none-of true = refl
+              none-of false = refl
+
+      same-types : e .notes ≡ after 64 .types
+      same-types = is-notes ∙ ap (λ (t : Bool). pick t 0 4) (sym (none-is (bitAnd (refused * 2 ^ from % 2 ^ 64) which) is (λ k g. let h = inside k g .1 in omega arith))) ∙ sym (types 64)
+        where
+          is : (k : ℕ) → bit (bitAnd (refused * 2 ^ from % 2 ^ 64) which) k ≡ (bit which k && refuses k)
+          is k = bit-and (refused * 2 ^ from % 2 ^ 64) which k ∙ at (bit which k) refl
+            where
+              none-of : (s : Bool) → (s && false) ≡ false
+              none-of true = refl
+              none-of false = refl
+
+              whole-of : (s : Bool) → (s && true) ≡ s
+              whole-of true = refl
+              whole-of false = refl
+
+              at : (t : Bool) → bit which k ≡ t → (bit (refused * 2 ^ from % 2 ^ 64) k && t) ≡ (t && refuses k)
+              at true g = whole-of (bit (refused * 2 ^ from % 2 ^ 64) k) ∙ moved refused (λ i. out i .types / 4) is-refused k g
+              at false g = none-of (bit (refused * 2 ^ from % 2 ^ 64) k)
+
+      pub compared : run l (effected e p) ≡ doneFor which ins x (run l p)
+      unfolding doneFor
+      compared =
+          ap₂ (λ (v t : ℕ). run l (gathered t (progress (withVcr (withVmr (p .control) v) (e .vcr)) (p .recorded)))) same-mask same-types
+          ∙ ap (λ (v : ℕ). run l (gathered (after 64 .types) (progress (withVcr (withVmr (p .control) (after 64 .vmr)) v) (p .recorded)))) is-vcr
+          ∙ all
+          ∙ sym (pick-false (isIota (kindOf (ins .work))) (iotaStep ins x (run l p)) _ (no-iota (kindOf (ins .work)) compare))

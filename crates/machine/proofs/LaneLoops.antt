@@ -1,0 +1,49 @@
+-- The loops over elements, turn by turn. Assumes nothing.
+use mathlib.Core.Path.{_≡_, refl, sym, ap, _∙_}
+use mathlib.Core.Bool.{Bool}
+use Prim.Native.Nat.{ℕ, _-_, _^_, _≤_, _<_}
+use Rattle.numbers.specs.Bits.{bit, lowBits}
+use Rattle.numbers.specs.Rising.{rising, ofOnes}
+use Rattle.numbers.proofs.SetBits.{ones-alike, all-below}
+use Rattle.element.specs.declared.Out.{Out}
+use Rattle.element.specs.Receives.{resultOf, coded}
+use Rattle.element.specs.Groups.{shortWork}
+use Rattle.element.proofs.Codes.{NoneOf, shortNumbers, is-floating}
+use Rattle.machine.specs.Loops.{operandAt, Lanes, landed, laneWorked, laneStep, shortAt, floatingAt, workAt}
+use Rattle.state.specs.Elements.{at}
+
+module _ (w : ℕ → ℕ → ℕ → ℕ → Out) (scalar : Bool) (x va vb vc : ℕ) where
+  -- the work of element i of the first operand, as it was fetched
+  pub works : (i a : ℕ) (s s′ : Lanes) → a ≡ operandAt scalar x va (s .elements) i → s′ ≡ laneWorked w a vb vc i s → s′ ≡ laneStep w scalar x va vb vc i s
+  unfolding laneStep
+  works i a s s′ e f = f ∙ ap (λ (y : ℕ). laneWorked w y vb vc i s) e
+
+  -- works that are alike
+  module _ (v : ℕ → ℕ → ℕ → ℕ → Out) (same : (i a b c : ℕ) → w i a b c ≡ v i a b c) where
+    like : (i : ℕ) (s : Lanes) → laneStep w scalar x va vb vc i s ≡ laneStep v scalar x va vb vc i s
+    unfolding laneStep laneWorked
+    like i s = ap (landed vc i s) (same i (operandAt scalar x va (s .elements) i) (at (s .elements) vb i) (at (s .elements) vc i))
+
+    by-set : (which : ℕ) (s₀ s : Lanes) → s ≡ rising (ofOnes (laneStep w scalar x va vb vc) which) 64 s₀ → s ≡ rising (ofOnes (laneStep v scalar x va vb vc) which) 64 s₀
+    by-set which s₀ s e = e ∙ ones-alike (laneStep w scalar x va vb vc) (laneStep v scalar x va vb vc) which 64 s₀ (λ i y _. like i y)
+
+    by-length : (n which : ℕ) (s₀ s : Lanes) → n ≤ 64 → which ≡ lowBits (2 ^ 64 - 1) n → s ≡ rising (laneStep w scalar x va vb vc) n s₀
+        → s ≡ rising (ofOnes (laneStep v scalar x va vb vc) which) 64 s₀
+    by-length n which s₀ s h e f = by-set which s₀ s (f ∙ all-below (laneStep w scalar x va vb vc) s₀ n which h e)
+
+-- the loops by the work's number: a short work, where the number is a constant, and any other
+module _ (code : ℕ) (exc : Bool) (field mask : ℕ) (scalar : Bool) (x va vb vc which : ℕ) (s₀ s : Lanes) where
+  abbrev Made : Type 0
+  Made = s ≡ rising (ofOnes (laneStep (workAt code exc field mask) scalar x va vb vc) which) 64 s₀
+
+  abbrev IsShort : Type 0
+  IsShort = (m : Bool) (a b c : ℕ) → resultOf (shortWork code) exc 0 m a b c ≡ resultOf (coded code) exc field m a b c
+
+  pub short-every : (n : ℕ) → s ≡ rising (laneStep (shortAt code exc mask) scalar x va vb vc) n s₀ → n ≤ 64 → which ≡ lowBits (2 ^ 64 - 1) n → IsShort → Made
+  short-every n e h q same = by-length (shortAt code exc mask) scalar x va vb vc (workAt code exc field mask) (λ i a b c. same (bit mask i) a b c) n which s₀ s h q e
+
+  pub short-chosen : s ≡ rising (ofOnes (laneStep (shortAt code exc mask) scalar x va vb vc) which) 64 s₀ → IsShort → Made
+  short-chosen e same = by-set (shortAt code exc mask) scalar x va vb vc (workAt code exc field mask) (λ i a b c. same (bit mask i) a b c) which s₀ s e
+
+  pub floating-chosen : s ≡ rising (ofOnes (laneStep (floatingAt code exc field) scalar x va vb vc) which) 64 s₀ → NoneOf code shortNumbers → (code ≡ 4 → ⊥) → (code ≡ 13 → ⊥) → Made
+  floating-chosen e r f g = by-set (floatingAt code exc field) scalar x va vb vc (workAt code exc field mask) (λ i a b c. is-floating code r f g exc field (bit mask i) a b c) which s₀ s e

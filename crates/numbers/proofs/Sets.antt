@@ -1,0 +1,68 @@
+-- Numbers as sets of bits: unions, sections, and sets moved up. Assumes nothing.
+use mathlib.Core.Path.{_≡_, refl, sym, ap, ap₂, subst, _∙_}
+use mathlib.Core.Bool.{Bool, true, false, not, _&&_, _||_}
+use mathlib.Core.Logic.{_⊎_, inl, inr}
+use Prim.Native.Nat.{ℕ, zero, suc, _+_, _-_, _*_, _/_, _%_, _^_, _<_, _≤_}
+use native.Mathlib.Nat.{div-eq-of-lt, zero-div, lt-of-lt-of-le, mul-mod-left, pow-suc, mod-lt}
+use native.Mathlib.Omega.{arith}
+use borrow.Author.Tests.{lt-ltb, le-ltb}
+use lib.Dec.{eqb, leb, ltb}
+use lib.Bits.{bitOr, bitAnd, or-shr, or-mod, and-shr, and-mod, and-lt, or-lt}
+use lib.Pow.{shl-shr, shr-shr, pow-add, pow-mono, pow-pos}
+use Rattle.numbers.specs.Choice.{pick}
+use Rattle.numbers.specs.Bits.{bit, complement}
+use Rattle.numbers.proofs.BitLaws.{digit, digit-lt, of-digit, same-digits, bit-counts, bit-complement}
+use Rattle.numbers.proofs.Tests.{below-or-not}
+
+-- sets with the same bits are the same
+pub same-bits : (a b : ℕ) → ((k : ℕ) → bit a k ≡ bit b k) → a ≡ b
+same-bits a b f = same-digits a b (λ k. sym (bit-counts a k) ∙ ap (λ (t : Bool). pick t 1 0) (f k) ∙ bit-counts b k)
+
+-- what holds of each two digits holds of two digits
+of-digits : (P : ℕ → ℕ → Type 0) → P 0 0 → P 0 1 → P 1 0 → P 1 1 → (d e : ℕ) → d < 2 → e < 2 → P d e
+of-digits P p q r s d e h g = of-digit (λ (x : ℕ). P x e) (of-digit (P 0) p q e g) (of-digit (P 1) r s e g) d h
+
+pub bit-or : (a b k : ℕ) → bit (bitOr a b) k ≡ (bit a k || bit b k)
+bit-or a b k =
+    ap (λ (d : ℕ). eqb d 1) (ap (λ (n : ℕ). n % 2) (or-shr a b k) ∙ or-mod (a / 2 ^ k) (b / 2 ^ k) 1)
+    ∙ of-digits (λ (d e : ℕ). eqb (bitOr d e) 1 ≡ (eqb d 1 || eqb e 1)) refl refl refl refl (digit a k) (digit b k) (digit-lt a k) (digit-lt b k)
+
+pub bit-and : (a b k : ℕ) → bit (bitAnd a b) k ≡ (bit a k && bit b k)
+bit-and a b k =
+    ap (λ (d : ℕ). eqb d 1) (ap (λ (n : ℕ). n % 2) (and-shr a b k) ∙ and-mod (a / 2 ^ k) (b / 2 ^ k) 1)
+    ∙ of-digits (λ (d e : ℕ). eqb (bitAnd d e) 1 ≡ (eqb d 1 && eqb e 1)) refl refl refl refl (digit a k) (digit b k) (digit-lt a k) (digit-lt b k)
+
+pub bit-none : (k : ℕ) → bit 0 k ≡ false
+bit-none k = ap (λ (n : ℕ). eqb (n % 2) 1) (zero-div (2 ^ k))
+
+pub bit-above : (x n k : ℕ) → x < 2 ^ n → n ≤ k → bit x k ≡ false
+bit-above x n k small h = ap (λ (d : ℕ). eqb (d % 2) 1) (div-eq-of-lt (lt-of-lt-of-le small (pow-mono h)))
+
+-- a set moved up by n
+pub bit-moved : (x n k : ℕ) → bit (x * 2 ^ n) (n + k) ≡ bit x k
+bit-moved x n k = ap (λ (d : ℕ). eqb (d % 2) 1) (sym (shr-shr (x * 2 ^ n) n k) ∙ ap (λ (d : ℕ). d / 2 ^ k) (shl-shr x n))
+
+-- ---- bits replaced
+module _ (x y which : ℕ) (x-word : x < 2 ^ 64) (y-word : y < 2 ^ 64) (which-word : which < 2 ^ 64) where
+  chooses : (a b w : Bool) → (a && not w || (b && w)) ≡ pick w b a
+  chooses true true true = refl
+  chooses true true false = refl
+  chooses true false true = refl
+  chooses true false false = refl
+  chooses false true true = refl
+  chooses false true false = refl
+  chooses false false true = refl
+  chooses false false false = refl
+
+  pub replaces : (k : ℕ) → bit (bitOr (bitAnd x (complement 64 which)) (bitAnd y which)) k ≡ pick (bit which k) (bit y k) (bit x k)
+  replaces k =
+      bit-or (bitAnd x (complement 64 which)) (bitAnd y which) k
+      ∙ ap₂ (λ (s t : Bool). s || t) (bit-and x (complement 64 which) k ∙ at (below-or-not k 64)) (bit-and y which k)
+      ∙ chooses (bit x k) (bit y k) (bit which k)
+    where
+      none : (t : Bool) → (false && t) ≡ false
+      none t = refl
+
+      at : (k < 64) ⊎ (64 ≤ k) → (bit x k && bit (complement 64 which) k) ≡ (bit x k && not (bit which k))
+      at (inl h) = ap (λ (t : Bool). bit x k && t) (bit-complement 64 which k which-word h)
+      at (inr h) = ap (λ (t : Bool). t && bit (complement 64 which) k) (bit-above x 64 k x-word h) ∙ sym (ap (λ (t : Bool). t && not (bit which k)) (bit-above x 64 k x-word h))
