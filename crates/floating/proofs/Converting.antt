@@ -1,33 +1,28 @@
 -- A number of the format made whole, as the code works it out, and a whole number as a word. Assumes nothing.
-use mathlib.Core.Path.{_≡_, refl, sym, ap, _∙_}
-use mathlib.Core.Bool.{Bool, true, false, cond, _&&_}
+use mathlib.Core.Path.{_≡_, refl, sym, ap, _∙_, subst}
+use mathlib.Core.Bool.{Bool, true, false, not, cond, _&&_}
 use Prim.Native.Nat.{ℕ, zero, suc, _+_, _-_, _*_, _/_, _%_, _^_, _≤_, _<_}
-use native.Mathlib.Nat.{le-trans, le-of-eq, lt-of-lt-of-le, one-mul, zero-mul, mul-comm, mul-assoc, mul-left-comm, add-mul, add-zero, mul-pos, mul-le-mul, mul-div-mul-right, mul-mod-left, div-eq-of-lt}
+use native.Mathlib.Nat.{le-trans, le-of-eq, lt-of-lt-of-le, one-mul, mul-one, zero-mul, mul-comm, mul-assoc, mul-right-comm, add-mul, add-zero, mul-pos, mul-le-mul, mul-div-mul-right, add-mul-div-right, div-div-eq-div-mul, mul-mod-left, div-eq-of-lt}
 use native.Mathlib.Omega.{arith}
-use lib.Dec.{eqb, ltb, lit<}
-use lib.Pow.{pow-add, pow-pos, pow-mono, shl-lt}
-use borrow.Author.Tests.{eq-eqb, ne-eqb, lt-ltb, le-ltb}
+use lib.Dec.{T, eqb, ltb, ltb→lt, nltb→le, lit<}
+use lib.Pow.{pow-add, pow-pos, pow-mono}
+use borrow.Author.Tests.{eq-eqb, eqb-true, eqb-false, lt-ltb, le-ltb}
 use Rattle.floating.specs.declared.Outcome.the-variants.{Word}
 use Rattle.floating.specs.declared.Answer.{Answer}
-use Rattle.floating.specs.Format.{Format, F, signOf, exponentOf, significandOf, isReserved, wordOf}
+use Rattle.floating.specs.Format.{Format, F, signOf, exponentOf, significandOf, isReserved}
 use Rattle.floating.specs.Exact.{sizeOf, whole}
-use Rattle.floating.specs.Round.{chopped}
+use Rattle.floating.specs.Round.{near, chopped}
 use Rattle.floating.specs.Delivered.{delivered}
 use Rattle.floating.specs.Operations.{lowBits, isWide, longword, toLongword, truncatedLongword, fromLongword}
-use Rattle.floating.specs.Steps.{IsRounded, wholeBy, StandsFor}
-use Rattle.floating.proofs.Delivering.{delivered-zero, delivered-at, judged-word}
+use Rattle.floating.specs.Steps.{turned, packed, wholeBy, StandsFor}
+use Rattle.floating.proofs.Arithmetic.{pow-two}
+use Rattle.floating.proofs.Rounding.{normal-64}
+use Rattle.floating.proofs.Delivering.{delivered-zero, delivered-near}
 use Rattle.floating.proofs.Products.{size-none, size-some}
+use Rattle.floating.proofs.Packing.{settled-word}
+use Rattle.floating.proofs.Refusing.{number-free}
 
 -- ---- the number made whole, by the exponent
--- a common factor of both, and of their halves
-scaled : (h x d K : ℕ) → 0 < K → (x * K * 2 + h * (d * 2 * K)) / (d * 2 * K * 2) ≡ (x + h * d) / (d * 2)
-scaled h x d K P =
-    let a : x * K * 2 + h * (d * 2 * K) ≡ (x + h * d) * (K * 2) = ap (λ (z : ℕ). z + h * (d * 2 * K)) (mul-assoc x K 2) ∙ ap (λ (z : ℕ). x * (K * 2) + z) (factors h d K) ∙ sym (add-mul x (h * d) (K * 2)) in
-    ap (λ (z : ℕ). z / (d * 2 * K * 2)) a ∙ ap (λ (z : ℕ). (x + h * d) * (K * 2) / z) (mul-assoc (d * 2) K 2) ∙ mul-div-mul-right (x + h * d) (d * 2) (mul-pos P (lit< tt))
-  where
-    factors : (h d K : ℕ) → h * (d * 2 * K) ≡ h * d * (K * 2)
-    factors h d K = simp (mul-assoc, mul-comm, mul-left-comm)
-
 multiple : (h y D : ℕ) → 0 < D → h < 2 → (y * D * 2 + h * D) / (D * 2) ≡ y
 multiple h y D P l =
     let a : y * D * 2 + h * D ≡ (y * 2 + h) * D = ap (λ (z : ℕ). z + h * D) (mul-assoc y D 2 ∙ ap (λ (z : ℕ). y * z) (mul-comm D 2) ∙ sym (mul-assoc y 2 D)) ∙ sym (add-mul (y * 2) h D) in
@@ -39,59 +34,51 @@ multiple h y D P l =
 raised : (m e i j : ℕ) → i + j ≡ e → m * 2 ^ e ≡ m * 2 ^ i * 2 ^ j
 raised m e i j q = ap (λ (z : ℕ). m * 2 ^ z) (sym q) ∙ ap (λ (z : ℕ). m * z) (pow-add 2 i j) ∙ sym (mul-assoc m (2 ^ i) (2 ^ j))
 
-pub stands : {x n : ℕ} → x ≡ n → StandsFor x n
+stands : {x n : ℕ} → x ≡ n → StandsFor x n
 stands {x} {n} e = record { low = ap (λ (z : ℕ). z % 0x1_0000_0000) e; past = ap (ltb 0x7fff_ffff) e; past-least = ap (ltb 0x8000_0000) e }
 
-module _ (e m h : ℕ) (hm : m < 16777216) (hh : h < 2) where
-  pub stands-small : e < 128 → StandsFor 0 (wholeBy h (m * 2 ^ e) (2 ^ 152))
-  stands-small l = stands (sym (div-eq-of-lt (lt-of-lt-of-le (less (m * 2 ^ e) (2 ^ 151) (2 ^ 152) h below refl hh) (le-of-eq refl))))
-    where
-      below : m * 2 ^ e < 2 ^ 151
-      below = let k : 24 + e ≤ 151 = omega arith in lt-of-lt-of-le (shl-lt 24 e hm) (pow-mono k)
+module _ (e m h : ℕ) where
+  -- the digits of the fraction are cut off, all but the first
+  pub cut-whole : (c : ℕ) → e ≤ 152 → c ≡ m * 2 / 2 ^ (152 - e) → (c + h) / 2 ≡ wholeBy h (m * 2 ^ e) (2 ^ 152)
+  cut-whole c l hc =
+      let d = 152 - e in
+      let q : d + e ≡ 152 = omega arith in
+      let D : 2 ^ 152 ≡ 2 ^ d * 2 ^ e = sym (pow-two d e 152 q) in
+      let a : m * 2 ^ e * 2 + h * (2 ^ d * 2 ^ e) ≡ (m * 2 + h * 2 ^ d) * 2 ^ e = ap (λ (z : ℕ). z + h * (2 ^ d * 2 ^ e)) (mul-right-comm m (2 ^ e) 2) ∙ ap (λ (z : ℕ). m * 2 * 2 ^ e + z) (sym (mul-assoc h (2 ^ d) (2 ^ e))) ∙ sym (add-mul (m * 2) (h * 2 ^ d) (2 ^ e)) in
+      ap (λ (z : ℕ). (z + h) / 2) hc
+      ∙ ap (λ (z : ℕ). z / 2) (sym (add-mul-div-right (m * 2) h (pow-pos d)))
+      ∙ div-div-eq-div-mul (m * 2 + h * 2 ^ d) (2 ^ d) 2
+      ∙ sym (mul-div-mul-right (m * 2 + h * 2 ^ d) (2 ^ d * 2) (pow-pos e))
+      ∙ ap (λ (z : ℕ). (m * 2 + h * 2 ^ d) * 2 ^ e / z) (mul-right-comm (2 ^ d) 2 (2 ^ e))
+      ∙ ap (λ (z : ℕ). z / (2 ^ d * 2 ^ e * 2)) (sym a)
+      ∙ ap (λ (z : ℕ). (m * 2 ^ e * 2 + h * z) / (z * 2)) (sym D)
 
-      less : (x y z h : ℕ) → x < y → z ≡ y * 2 → h < 2 → x * 2 + h * z < z * 2
-      less x y z h l q k =
-          let o : h * z ≤ 1 * z = mul-le-mul h1 (le-of-eq refl) in
-          let p : 1 * z ≡ z = one-mul z in
-          omega arith
-        where
-          h1 : h ≤ 1
-          h1 = omega arith
-
-  pub stands-middle : (p : ℕ) → 128 ≤ e → p ≡ 2 ^ (e - 128) → StandsFor ((m * p + h * 8388608) / 16777216) (wholeBy h (m * 2 ^ e) (2 ^ 152))
-  stands-middle p l hp =
-      let q : e - 128 + 128 ≡ e = omega arith in
-      stands
-      (ap (λ (z : ℕ). (m * z + h * 8388608) / 16777216) hp
-      ∙ sym (scaled h (m * 2 ^ (e - 128)) 8388608 (2 ^ 128) (pow-pos 128))
-      ∙ ap (λ (z : ℕ). (z * 2 + h * 2 ^ 152) / (2 ^ 152 * 2)) (sym (raised m e (e - 128) 128 q)))
-
-  is-large : 152 ≤ e → wholeBy h (m * 2 ^ e) (2 ^ 152) ≡ m * 2 ^ (e - 152)
-  is-large l =
+  -- there are no digits of a fraction
+  pub no-fraction : 152 ≤ e → h < 2 → wholeBy h (m * 2 ^ e) (2 ^ 152) ≡ m * 2 ^ (e - 152)
+  no-fraction l hh =
       let q : e - 152 + 152 ≡ e = omega arith in
       ap (λ (z : ℕ). (z * 2 + h * 2 ^ 152) / (2 ^ 152 * 2)) (raised m e (e - 152) 152 q) ∙ multiple h (m * 2 ^ (e - 152)) (2 ^ 152) (pow-pos 152) hh
 
-  pub stands-large : (p : ℕ) → 152 ≤ e → p ≡ 2 ^ (e - 152) → StandsFor (m * p) (wholeBy h (m * 2 ^ e) (2 ^ 152))
-  stands-large p l hp = stands (ap (λ (z : ℕ). m * z) hp ∙ sym (is-large l))
+pub stands-large : (e m p : ℕ) → p ≡ 2 ^ (e - 152) → StandsFor (m * p) (m * 2 ^ (e - 152))
+stands-large e m p hp = stands (ap (λ (z : ℕ). m * z) hp)
 
-  pub stands-huge : 8388608 ≤ m → 184 ≤ e → StandsFor 4294967296 (wholeBy h (m * 2 ^ e) (2 ^ 152))
-  stands-huge lo l =
-      let a : 152 ≤ e = omega arith in
-      let q : e - 184 + 32 ≡ e - 152 = omega arith in
-      let y = m * 2 ^ (e - 184) in
-      let is : wholeBy h (m * 2 ^ e) (2 ^ 152) ≡ y * 4294967296 = is-large a ∙ raised m (e - 152) (e - 184) 32 q in
-      let one : 1 ≤ y = mul-pos (lt-of-lt-of-le (lit< tt) lo) (pow-pos (e - 184)) in
-      let big : 4294967296 ≤ y * 4294967296 = omega arith in
-      let past : 2147483647 < wholeBy h (m * 2 ^ e) (2 ^ 152) = lt-of-lt-of-le (lit< tt) (le-trans big (le-of-eq (sym is))) in
-      let least : 2147483648 < wholeBy h (m * 2 ^ e) (2 ^ 152) = lt-of-lt-of-le (lit< tt) (le-trans big (le-of-eq (sym is))) in
-      record {
-        low = sym (ap (λ (z : ℕ). z % 4294967296) is ∙ mul-mod-left y 4294967296);
-        past = sym (lt-ltb 2147483647 (wholeBy h (m * 2 ^ e) (2 ^ 152)) past);
-        past-least = sym (lt-ltb 2147483648 (wholeBy h (m * 2 ^ e) (2 ^ 152)) least);
-      }
+pub stands-huge : (e m : ℕ) → 8388608 ≤ m → 184 ≤ e → StandsFor 4294967296 (m * 2 ^ (e - 152))
+stands-huge e m lo l =
+    let q : e - 184 + 32 ≡ e - 152 = omega arith in
+    let y = m * 2 ^ (e - 184) in
+    let is : m * 2 ^ (e - 152) ≡ y * 4294967296 = raised m (e - 152) (e - 184) 32 q in
+    let one : 1 ≤ y = mul-pos (lt-of-lt-of-le (lit< tt) lo) (pow-pos (e - 184)) in
+    let big : 4294967296 ≤ y * 4294967296 = omega arith in
+    let past : 2147483647 < m * 2 ^ (e - 152) = lt-of-lt-of-le (lit< tt) (le-trans big (le-of-eq (sym is))) in
+    let least : 2147483648 < m * 2 ^ (e - 152) = lt-of-lt-of-le (lit< tt) (le-trans big (le-of-eq (sym is))) in
+    record {
+      low = sym (ap (λ (z : ℕ). z % 4294967296) is ∙ mul-mod-left y 4294967296);
+      past = sym (lt-ltb 2147483647 (m * 2 ^ (e - 152)) past);
+      past-least = sym (lt-ltb 2147483648 (m * 2 ^ (e - 152)) least);
+    }
 
 -- ---- what does for a number gives its longword
-pub longword-stands : (exc : Bool) (s x n : ℕ) → s < 2 → StandsFor x n → longword exc s x ≡ longword exc s n
+longword-stands : (exc : Bool) (s x n : ℕ) → s < 2 → StandsFor x n → longword exc s x ≡ longword exc s n
 longword-stands exc s x n l h =
     ap (λ (z : ℕ). record { value = cond (eqb s 1) ((0x1_0000_0000 - z) % 0x1_0000_0000) z; types = cond exc (cond (isWide s x) 32 0) 0 }) (h .low)
     ∙ ap (λ (z : Bool). record { value = lowBits s n; types = cond exc (cond z 32 0) 0 }) (wide s l)
@@ -105,37 +92,29 @@ longword-stands exc s x n l h =
         go (suc (suc k)) l = absurd (omega arith)
 
 -- ---- the answer
-pub low-bits-minus : (s n r : ℕ) → s ≡ 1 → r ≡ (4294967296 - n % 4294967296) % 4294967296 → r ≡ lowBits s n
-low-bits-minus s n r e h = h ∙ sym (simp (eq-eqb s 1 e))
+pub low-bits-made : (s n a b r : ℕ) → a ≡ (4294967296 - n % 4294967296) % 4294967296 → b ≡ n % 4294967296 → r ≡ cond (eqb s 1) a b → r ≡ lowBits s n
+low-bits-made s n a b r ha hb hr = hr ∙ ap (λ (z : ℕ). cond (eqb s 1) z b) ha ∙ ap (λ (z : ℕ). cond (eqb s 1) ((4294967296 - n % 4294967296) % 4294967296) z) hb
 
-pub low-bits-plus : (s n r : ℕ) → (s ≡ 1 → ⊥) → r ≡ n % 4294967296 → r ≡ lowBits s n
-low-bits-plus s n r e h = h ∙ sym (simp (ne-eqb s 1 e))
+pub record-made : (exc t : Bool) (s n v y : ℕ) → t ≡ isWide s n → v ≡ lowBits s n → y ≡ cond (exc && t) 32 0 → record { value = v; types = y } ≡ longword exc s n
+record-made exc t s n v y ht hv hy = ap (λ (z : ℕ). record { value = z; types = y }) hv ∙ ap (λ (z : ℕ). record { value = lowBits s n; types = z }) (hy ∙ go exc t ∙ ap (λ (z : Bool). cond exc (cond z 32 0) 0) ht)
+  where
+    go : (exc t : Bool) → _≡_ {A = ℕ} (cond (exc && t) 32 0) (cond exc (cond t 32 0) 0)
+    go true t = refl
+    go false t = refl
 
-pub wide-recorded : (exc t : Bool) (s n v : ℕ) → t ≡ isWide s n → (exc && t) ≡ true → v ≡ lowBits s n → record { value = v; types = 32 } ≡ longword exc s n
-wide-recorded true true s n v ht e hv = ap (λ (z : ℕ). record { value = z; types = 32 }) hv ∙ ap (λ (z : Bool). record { value = lowBits s n; types = cond z 32 0 }) ht
-wide-recorded true false s n v ht e hv = absurd (no-true e)
+pub narrow-made : (exc : Bool) (s n v : ℕ) → n ≤ 16777216 → v ≡ lowBits s n → record { value = v; types = 0 } ≡ longword exc s n
+narrow-made exc s n v l hv = record-made exc false s n v 0 (sym (le-ltb (2147483647 + s) n (omega arith))) hv (go exc)
   where
-    no-true : false ≡ true → ⊥
-    no-true p = let z : _≡_ {A = ℕ} 0 1 = cc in omega arith
-wide-recorded false t s n v ht e hv = absurd (no-true e)
-  where
-    no-true : false ≡ true → ⊥
-    no-true p = let z : _≡_ {A = ℕ} 0 1 = cc in omega arith
-
-pub none-recorded : (exc t : Bool) (s n v : ℕ) → t ≡ isWide s n → (exc && t) ≡ false → v ≡ lowBits s n → record { value = v; types = 0 } ≡ longword exc s n
-none-recorded true true s n v ht e hv = absurd (no-true e)
-  where
-    no-true : true ≡ false → ⊥
-    no-true p = let z : _≡_ {A = ℕ} 0 1 = cc in omega arith
-none-recorded true false s n v ht e hv = ap (λ (z : ℕ). record { value = z; types = 0 }) hv ∙ ap (λ (z : Bool). record { value = lowBits s n; types = cond z 32 0 }) ht
-none-recorded false t s n v ht e hv = ap (λ (z : ℕ). record { value = z; types = 0 }) hv
+    go : (exc : Bool) → _≡_ {A = ℕ} 0 (cond (exc && false) 32 0)
+    go true = refl
+    go false = refl
 
 module _ (f : Format) (made : ℕ → ℕ → ℕ) (exc : Bool) (w : ℕ) where
-  pub source-reserved : (t : Bool) → t ≡ isReserved f w → t ≡ true → record { value = 0; types = 4 } ≡ toLongword f made exc w
-  source-reserved t h y = let e : isReserved f w ≡ true = sym h ∙ y in sym (simp e)
+  source-reserved : isReserved f w ≡ true → record { value = 0; types = 4 } ≡ toLongword f made exc w
+  source-reserved e = sym (simp e)
 
-  pub source-number : (t : Bool) (r : Answer) → t ≡ isReserved f w → t ≡ false → r ≡ longword exc (signOf f w) (made (sizeOf f w) (2 ^ (f .bits + f .excess))) → r ≡ toLongword f made exc w
-  source-number t r h n e = let q : isReserved f w ≡ false = sym h ∙ n in e ∙ sym (simp q)
+  source-number : (r : Answer) → isReserved f w ≡ false → r ≡ longword exc (signOf f w) (made (sizeOf f w) (2 ^ (f .bits + f .excess))) → r ≡ toLongword f made exc w
+  source-number r q e = e ∙ sym (simp q)
 
 -- nothing is made of nothing
 whole-none : (h d : ℕ) → 0 < d → h < 2 → wholeBy h 0 d ≡ 0
@@ -158,22 +137,46 @@ nothing exc s l = go exc s l
     go exc (suc (suc k)) l = absurd (omega arith)
 
 module _ (exc : Bool) (w h : ℕ) (hh : h < 2) where
-  pub source-none : (t : Bool) (e : ℕ) → t ≡ isReserved F w → t ≡ false → e ≡ exponentOf F w → e ≡ 0 → record { value = 0; types = 0 } ≡ toLongword F (wholeBy h) exc w
-  source-none t e ht n he z =
-      source-number F (wholeBy h) exc w t (record { value = 0; types = 0 }) ht n
-      (sym
-      (ap (λ (y : ℕ). longword exc (signOf F w) (wholeBy h y (2 ^ 152))) (size-none F w (sym he ∙ z))
-      ∙ ap (longword exc (signOf F w)) (whole-none h (2 ^ 152) (pow-pos 152) hh)
-      ∙ nothing exc (signOf F w) (omega arith)))
+  -- no exponent: zero, or with the sign a reserved operand
+  pub source-none : (e s y : ℕ) → e ≡ exponentOf F w → e ≡ 0 → s ≡ signOf F w → y ≡ s * 4 → record { value = 0; types = y } ≡ toLongword F (wholeBy h) exc w
+  source-none e s y he z hs hy = go (eqb (signOf F w) 1) refl
+    where
+      x : eqb (exponentOf F w) 0 ≡ true
+      x = eq-eqb (exponentOf F w) 0 (sym he ∙ z)
 
-  pub source-made : (t : Bool) (r : Answer) (e m s x : ℕ) → t ≡ isReserved F w → t ≡ false → e ≡ exponentOf F w → (e ≡ 0 → ⊥) → m ≡ significandOf F w → s ≡ signOf F w → StandsFor x (wholeBy h (m * 2 ^ e) (2 ^ 152)) → r ≡ longword exc s x → r ≡ toLongword F (wholeBy h) exc w
-  source-made t r e m s x ht n he ne hm hs S hr =
-      let z : m * 2 ^ e ≡ sizeOf F w = ap (λ (y : ℕ). y * 2 ^ e) hm ∙ ap (λ (y : ℕ). significandOf F w * 2 ^ y) he ∙ sym (size-some F w (λ y. ne (he ∙ y))) in
-      source-number F (wholeBy h) exc w t r ht n
-      (hr
-      ∙ ap (λ (y : ℕ). longword exc y x) hs
-      ∙ longword-stands exc (signOf F w) x (wholeBy h (m * 2 ^ e) (2 ^ 152)) (omega arith) S
-      ∙ ap (λ (y : ℕ). longword exc (signOf F w) (wholeBy h y (2 ^ 152))) z)
+      reserved-is : isReserved F w ≡ eqb (signOf F w) 1
+      reserved-is = simp x
+
+      go : (t : Bool) → eqb (signOf F w) 1 ≡ t → record { value = 0; types = y } ≡ toLongword F (wholeBy h) exc w
+      go true g =
+          let one : signOf F w ≡ 1 = eqb-true (signOf F w) 1 g in
+          let four : y ≡ 4 = omega arith in
+          ap (λ (k : ℕ). record { value = 0; types = k }) four ∙ source-reserved F (wholeBy h) exc w (reserved-is ∙ g)
+      go false g =
+          let not-one : (signOf F w ≡ 1 → ⊥) = eqb-false (signOf F w) 1 g in
+          let nil : y ≡ 0 = omega (arith, not-one) in
+          ap (λ (k : ℕ). record { value = 0; types = k }) nil
+          ∙ source-number F (wholeBy h) exc w (record { value = 0; types = 0 }) (reserved-is ∙ g)
+          (sym
+          (ap (λ (k : ℕ). longword exc (signOf F w) (wholeBy h k (2 ^ 152))) (size-none F w (sym he ∙ z))
+          ∙ ap (longword exc (signOf F w)) (whole-none h (2 ^ 152) (pow-pos 152) hh)
+          ∙ nothing exc (signOf F w) (omega arith)))
+
+  module _ (r : Answer) (e m s x : ℕ) (he : e ≡ exponentOf F w) (ne : e ≡ 0 → ⊥) (hm : m ≡ significandOf F w) (hs : s ≡ signOf F w) (hr : r ≡ longword exc s x) where
+    source-made : StandsFor x (wholeBy h (m * 2 ^ e) (2 ^ 152)) → r ≡ toLongword F (wholeBy h) exc w
+    source-made S =
+        let z : m * 2 ^ e ≡ sizeOf F w = ap (λ (y : ℕ). y * 2 ^ e) hm ∙ ap (λ (y : ℕ). significandOf F w * 2 ^ y) he ∙ sym (size-some F w (λ y. ne (he ∙ y))) in
+        source-number F (wholeBy h) exc w r (sym (number-free F w (λ y. ne (he ∙ y))))
+        (hr
+        ∙ ap (λ (y : ℕ). longword exc y x) hs
+        ∙ longword-stands exc (signOf F w) x (wholeBy h (m * 2 ^ e) (2 ^ 152)) (omega arith) S
+        ∙ ap (λ (y : ℕ). longword exc (signOf F w) (wholeBy h y (2 ^ 152))) z)
+
+    pub source-below : x ≡ wholeBy h (m * 2 ^ e) (2 ^ 152) → r ≡ toLongword F (wholeBy h) exc w
+    source-below hx = source-made (stands hx)
+
+    pub source-above : 152 ≤ e → StandsFor x (m * 2 ^ (e - 152)) → r ≡ toLongword F (wholeBy h) exc w
+    source-above l S = source-made (subst (StandsFor x) (sym (no-fraction e m h l hh)) S)
 
 -- ---- with no halves a number is chopped
 module _ (exc : Bool) (w : ℕ) where
@@ -184,25 +187,40 @@ module _ (exc : Bool) (w : ℕ) where
   by-none = alike (wholeBy 0) chopped (λ a d. ap (λ (z : ℕ). (a * 2 + z) / (d * 2)) (zero-mul d) ∙ ap (λ (z : ℕ). z / (d * 2)) (add-zero (a * 2)) ∙ mul-div-mul-right a d (lit< tt))
 
 -- ---- a whole number as a word
-pub whole-delivered : (s n k m e w : ℕ) → k < 39 → IsRounded 24 (n * 16777216) 1 k m e → w ≡ wordOf F s (e + 128) (m - 8388608) → delivered F (whole s n) ≡ Word w
-whole-delivered s n k m e w l R hw =
-    let top = R .most in
-    let E : n * 2 ^ 152 * (1 * 2 ^ 0) ≡ n * 16777216 * 2 ^ 128 * 1 = ap (λ (z : ℕ). z * 1) (sym (mul-assoc n 16777216 (2 ^ 128))) in
-    sym (judged-word F s k m e 128 0 w (omega arith) (omega arith) (hw ∙ ap (λ (z : ℕ). wordOf F s z (m - 8388608)) (plain e)) ∙ delivered-at F s n 1 (n * 16777216) 1 k m e 128 0 (lit< tt) (lit< tt) (lit< tt) E R)
+pub whole-delivered : (s n z y m k w : ℕ) → s < 2 → z < 64 → 9223372036854775808 ≤ n * 2 ^ z → n * 2 ^ z < 18446744073709551616 → y ≡ n * 2 ^ z → m ≡ near y 1099511627776 → 8388608 ≤ m → m ≤ 16777216 → k ≡ packed F (192 - z) m → k < 2147483648 → w ≡ turned (s * 2147483648 + k) → delivered F (whole s n) ≡ Word w
+whole-delivered s n z y m k w hs hz lo hi hy hm mlo mhi hk small hw =
+    let E : n * 2 ^ 152 * (1 * 2 ^ z) ≡ n * 2 ^ z * 2 ^ 152 * 1 = moved n (2 ^ 152) (2 ^ z) in
+    sym
+    (settled-word s (192 - z) m k (omega arith) mlo mhi hk w hs (omega arith) hw
+    ∙ delivered-near F s n 1 (n * 2 ^ z) 1 40 m 152 z (lit< tt) (lit< tt) (lit< tt) E (normal-64 (n * 2 ^ z) lo hi) (hm ∙ ap (λ (v : ℕ). near v 1099511627776) hy))
   where
-    plain : (e : ℕ) → e + 128 ≡ e + 128 - 0
-    plain e = omega arith
+    moved : (a b c : ℕ) → a * b * (1 * c) ≡ a * c * b * 1
+    moved a b c = ap (λ (v : ℕ). a * b * v) (one-mul c) ∙ mul-right-comm a b c ∙ sym (mul-one (a * c * b))
+
+pub whole-small : (z m k : ℕ) → m ≤ 16777216 → k ≡ packed F (192 - z) m → k < 2147483648
+whole-small z m k hm hk = omega arith
 
 module _ (l : ℕ) where
   pub longword-none : l ≡ 0 → fromLongword F l ≡ Word 0
-  longword-none z =
-      ap (λ (y : ℕ). fromLongword F y) z ∙ delivered-zero F (whole 0 0) refl
+  longword-none z = ap (λ (y : ℕ). fromLongword F y) z ∙ delivered-zero F (whole 0 0) refl
 
-  pub longword-plus : (r x : ℕ) → l < 2147483648 → x ≡ l → delivered F (whole 0 x) ≡ Word r → fromLongword F l ≡ Word r
-  longword-plus r x h e d = simp (lt-ltb l 2147483648 h) (ap (λ (y : ℕ). delivered F (whole 0 y)) (sym e) ∙ d)
+  pub longword-some : (r x n : ℕ) → l < 4294967296 → x ≡ l → n ≡ cond (eqb (l / 2147483648) 1) (4294967296 - x) x → delivered F (whole (l / 2147483648) n) ≡ Word r → fromLongword F l ≡ Word r
+  longword-some r x n h e hn d = ap (delivered F) (go (ltb l 2147483648) (ltb→lt l 2147483648) (nltb→le l 2147483648)) ∙ ap (λ (y : ℕ). delivered F (whole (l / 2147483648) y)) (ap (λ (y : ℕ). cond (eqb (l / 2147483648) 1) (4294967296 - y) y) (sym e) ∙ sym hn) ∙ d
+    where
+      at : (k : ℕ) → l / 2147483648 ≡ k → whole k (cond (eqb k 1) (4294967296 - l) l) ≡ whole (l / 2147483648) (cond (eqb (l / 2147483648) 1) (4294967296 - l) l)
+      at k q = ap (λ (y : ℕ). whole y (cond (eqb y 1) (4294967296 - l) l)) (sym q)
 
-  pub longword-minus : (r x : ℕ) → 2147483648 ≤ l → x ≡ l → delivered F (whole 1 (4294967296 - x)) ≡ Word r → fromLongword F l ≡ Word r
-  longword-minus r x h e d = simp (le-ltb l 2147483648 h) (ap (λ (y : ℕ). delivered F (whole 1 (4294967296 - y))) (sym e) ∙ d)
+      go : (t : Bool) → (T t → l < 2147483648) → (T (not t) → 2147483648 ≤ l) → cond t (whole 0 l) (whole 1 (4294967296 - l)) ≡ whole (l / 2147483648) (cond (eqb (l / 2147483648) 1) (4294967296 - l) l)
+      go true g b = let k : l < 2147483648 = g tt in at 0 (omega arith)
+      go false g b = let k : 2147483648 ≤ l = b tt in at 1 (omega arith)
+
+-- a longword that is not zero has a size
+pub size-in : (l x n : ℕ) → l < 4294967296 → (l ≡ 0 → ⊥) → x ≡ l → n ≡ cond (eqb (l / 2147483648) 1) (4294967296 - x) x → (0 < n) × (n ≤ 2147483648)
+size-in l x n h z e hn = subst (λ (v : ℕ). (0 < v) × (v ≤ 2147483648)) (sym hn) (go (eqb (l / 2147483648) 1) refl)
+  where
+    go : (t : Bool) → eqb (l / 2147483648) 1 ≡ t → (0 < cond t (4294967296 - x) x) × (cond t (4294967296 - x) x ≤ 2147483648)
+    go true g = let k : l / 2147483648 ≡ 1 = eqb-true (l / 2147483648) 1 g in (omega arith, omega arith)
+    go false g = let k : (l / 2147483648 ≡ 1 → ⊥) = eqb-false (l / 2147483648) 1 g in (omega (arith, z), omega (arith, k))
 
 -- ---- a significand moved up by at most 32 digits
 pub moved-up : (m p k : ℕ) → m < 16777216 → p ≡ 2 ^ k → k ≤ 32 → m * p ≤ 72057594037927936

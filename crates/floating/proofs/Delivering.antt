@@ -16,8 +16,8 @@ use Rattle.floating.specs.Format.{Format, wordOf}
 use Rattle.floating.specs.Exact.{Exact}
 use Rattle.floating.specs.Round.{near, places, Rounded, carried, rounded}
 use Rattle.floating.specs.Delivered.{judged, delivered}
-use Rattle.floating.specs.Steps.{Normal, IsRounded}
-use Rattle.floating.proofs.Rounding.{places-only, rounded-at, rounded-same, near-same, by}
+use Rattle.floating.specs.Steps.{Normal, settled}
+use Rattle.floating.proofs.Rounding.{places-only, rounded-at, rounded-same, near-same}
 
 -- ---- N / D is n / d, up times doubled and down times halved
 module _ (p N D n d k up down : ℕ) (P : 0 < p) (DD : 0 < D) (dd : 0 < d) (E : N * (d * 2 ^ down) ≡ n * 2 ^ up * D) (M : Normal p n d k) where
@@ -71,34 +71,16 @@ module _ (p N D n d k up down : ℕ) (P : 0 < p) (DD : 0 < D) (dd : 0 < d) (E : 
     pub places-moved : places p N D ≡ j
     places-moved = places-only p N D P DD j normal-moved
 
--- the carry at another exponent
-carried-sig : (p r k j : ℕ) → carried p r k .sig ≡ carried p r j .sig
-carried-sig p r k j = go (ltb r (2 ^ p))
-  where
-    go : (t : Bool) → (by t p r k) .sig ≡ (by t p r j) .sig
-    go true = refl
-    go false = refl
-
-carried-exp : (p r k j up down : ℕ) → j + down ≡ k + up → carried p r k .exp + up - down ≡ carried p r j .exp
-carried-exp p r k j up down J = go (ltb r (2 ^ p))
-  where
-    go : (t : Bool) → (by t p r k) .exp + up - down ≡ (by t p r j) .exp
-    go true = omega arith
-    go false = omega arith
-
 -- ---- the judgement, by the tests that the code makes
-module _ (f : Format) (s k m e up down : ℕ) where
-  pub judged-under : k + up ≤ down → Underflow ≡ judged f s (k + up - down) m (e + up - down)
-  judged-under h = let z : k + up - down ≡ 0 = omega arith in simp (eq-eqb (k + up - down) 0 z)
+module _ (f : Format) (s k m e : ℕ) where
+  pub judged-under : k ≡ 0 → Underflow ≡ judged f s k m e
+  judged-under h = simp (eq-eqb k 0 h)
 
-  in-range : down < k + up → k + up - down ≡ 0 → ⊥
-  in-range h z = omega arith
+  pub judged-over : (k ≡ 0 → ⊥) → f .largest < e → Overflow ≡ judged f s k m e
+  judged-over h g = simp (ne-eqb k 0 h, lt-ltb (f .largest) e g)
 
-  pub judged-over : down < k + up → down + f .largest < e + up → Overflow ≡ judged f s (k + up - down) m (e + up - down)
-  judged-over h g = let l : f .largest < e + up - down = omega arith in simp (ne-eqb (k + up - down) 0 (in-range h), lt-ltb (f .largest) (e + up - down) l)
-
-  pub judged-word : (w : ℕ) → down < k + up → e + up ≤ down + f .largest → w ≡ wordOf f s (e + up - down) (m - 2 ^ (f .bits - 1)) → Word w ≡ judged f s (k + up - down) m (e + up - down)
-  judged-word w h g ew = let l : e + up - down ≤ f .largest = omega arith in ap Word ew ∙ sym (simp (ne-eqb (k + up - down) 0 (in-range h), le-ltb (f .largest) (e + up - down) l))
+  pub judged-word : (w : ℕ) → (k ≡ 0 → ⊥) → e ≤ f .largest → w ≡ wordOf f s e (m - 2 ^ (f .bits - 1)) → Word w ≡ judged f s k m e
+  judged-word w h g ew = ap Word ew ∙ sym (simp (ne-eqb k 0 h, le-ltb (f .largest) e g))
 
 module _ (f : Format) where
   pub delivered-zero : (v : Exact) → v .num ≡ 0 → delivered f v ≡ Word 0
@@ -113,12 +95,12 @@ module _ (f : Format) where
   lowest s k m e k' m' e' h h' = simp (eq-eqb k 0 h, eq-eqb k' 0 h')
 
   -- What is delivered of num / den may be worked out from n / d, where num / den * 2 ^ (bits + excess) is n / d * 2 ^ up / 2 ^ down.
-  pub delivered-at : (s num den n d k m e up down : ℕ) → 0 < f .bits → 0 < den → 0 < d → num * 2 ^ (f .bits + f .excess) * (d * 2 ^ down) ≡ n * 2 ^ up * den → IsRounded (f .bits) n d k m e
-      → judged f s (k + up - down) m (e + up - down) ≡ delivered f (record { sign = s; num = num; den = den })
-  delivered-at s num den n d k m e up down P DD dd E R = sym (delivered-some (record { sign = s; num = num; den = den }) some ∙ go (eq-zero-or-pos (k + up - down)))
+  pub delivered-near : (s num den n d k m up down : ℕ) → 0 < f .bits → 0 < den → 0 < d → num * 2 ^ (f .bits + f .excess) * (d * 2 ^ down) ≡ n * 2 ^ up * den → Normal (f .bits) n d k → m ≡ near n (d * 2 ^ k)
+      → settled f s (k + up - down) m ≡ delivered f (record { sign = s; num = num; den = den })
+  delivered-near s num den n d k m up down P DD dd E M hm = sym (delivered-some (record { sign = s; num = num; den = den }) some ∙ go (eq-zero-or-pos (k + up - down)))
     where
       there : 0 < n * 2 ^ up * den
-      there = mul-pos (mul-pos (lt-of-lt-of-le (mul-pos (mul-pos dd (pow-pos k)) (pow-pos (f .bits - 1))) (R .normal .low)) (pow-pos up)) DD
+      there = mul-pos (mul-pos (lt-of-lt-of-le (mul-pos (mul-pos dd (pow-pos k)) (pow-pos (f .bits - 1))) (M .low)) (pow-pos up)) DD
 
       some : num ≡ 0 → ⊥
       some z =
@@ -126,21 +108,16 @@ module _ (f : Format) where
           let b : n * 2 ^ up * den ≡ 0 = sym E ∙ a in
           omega (arith, there)
 
-      go : (k + up - down ≡ 0) ⊎ (0 < k + up - down) → judged f s (places (f .bits) (num * 2 ^ (f .bits + f .excess)) den) (rounded (f .bits) (num * 2 ^ (f .bits + f .excess)) den .sig) (rounded (f .bits) (num * 2 ^ (f .bits + f .excess)) den .exp) ≡ judged f s (k + up - down) m (e + up - down)
+      go : (k + up - down ≡ 0) ⊎ (0 < k + up - down) → judged f s (places (f .bits) (num * 2 ^ (f .bits + f .excess)) den) (rounded (f .bits) (num * 2 ^ (f .bits + f .excess)) den .sig) (rounded (f .bits) (num * 2 ^ (f .bits + f .excess)) den .exp) ≡ settled f s (k + up - down) m
       go (inl z) =
           let l : k + up ≤ down = omega arith in
-          lowest s _ _ _ _ _ _ (none (f .bits) (num * 2 ^ (f .bits + f .excess)) den n d k up down P DD dd E (R .normal) l) z
+          lowest s _ _ _ _ _ _ (none (f .bits) (num * 2 ^ (f .bits + f .excess)) den n d k up down P DD dd E M l) z
       go (inr h) =
           let j = k + up - down in
           let J : j + down ≡ k + up = omega arith in
-          let r = rounded-moved (f .bits) (num * 2 ^ (f .bits + f .excess)) den n d k up down P DD dd E (R .normal) j J in
-          let q = rounded-at (f .bits) n d P dd k (R .normal) in
-          let c = near n (d * 2 ^ k) in
-          let es : rounded (f .bits) (num * 2 ^ (f .bits + f .excess)) den .sig ≡ m = ap (λ (x : Rounded). x .sig) r ∙ carried-sig (f .bits) c j k ∙ ap (λ (x : Rounded). x .sig) (sym q) ∙ sym (R .is-sig) in
-          let ee : rounded (f .bits) (num * 2 ^ (f .bits + f .excess)) den .exp ≡ e + up - down = ap (λ (x : Rounded). x .exp) r ∙ sym (carried-exp (f .bits) c k j up down J) ∙ ap (λ (x : Rounded). x .exp + up - down) (sym q) ∙ ap (λ (z : ℕ). z + up - down) (sym (R .is-after)) in
-          ap (λ (z : ℕ). judged f s z (rounded (f .bits) (num * 2 ^ (f .bits + f .excess)) den .sig) (rounded (f .bits) (num * 2 ^ (f .bits + f .excess)) den .exp)) (places-moved (f .bits) (num * 2 ^ (f .bits + f .excess)) den n d k up down P DD dd E (R .normal) j J)
-          ∙ ap (λ (z : ℕ). judged f s j z (rounded (f .bits) (num * 2 ^ (f .bits + f .excess)) den .exp)) es
-          ∙ ap (λ (z : ℕ). judged f s j m z) ee
+          let r : rounded (f .bits) (num * 2 ^ (f .bits + f .excess)) den ≡ carried (f .bits) m j = rounded-moved (f .bits) (num * 2 ^ (f .bits + f .excess)) den n d k up down P DD dd E M j J ∙ ap (λ (z : ℕ). carried (f .bits) z j) (sym hm) in
+          ap (λ (z : ℕ). judged f s z (rounded (f .bits) (num * 2 ^ (f .bits + f .excess)) den .sig) (rounded (f .bits) (num * 2 ^ (f .bits + f .excess)) den .exp)) (places-moved (f .bits) (num * 2 ^ (f .bits + f .excess)) den n d k up down P DD dd E M j J)
+          ∙ ap (λ (x : Rounded). judged f s j (x .sig) (x .exp)) r
 
   -- equal fractions are delivered alike
   pub delivered-same : (s a b c d : ℕ) → 0 < b → 0 < d → a * d ≡ c * b → delivered f (record { sign = s; num = a; den = b }) ≡ delivered f (record { sign = s; num = c; den = d })

@@ -3,6 +3,7 @@ pub mod Arithmetic
 pub mod Rounding
 pub mod Delivering
 pub mod Align
+pub mod Refusing
 pub mod Products
 pub mod Packing
 pub mod Magnitude
@@ -10,7 +11,6 @@ pub mod Sums
 pub mod Meaning
 pub mod Converting
 pub mod Ordering
-pub mod Refusing
 pub mod Double
 pub mod Shown
 pub mod Signed

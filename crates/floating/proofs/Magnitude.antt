@@ -3,7 +3,7 @@ use mathlib.Core.Path.{_≡_, refl, sym, ap, _∙_, subst}
 use mathlib.Core.Logic.{_⊎_, inl, inr}
 use mathlib.Core.Bool.{cond}
 use Prim.Native.Nat.{ℕ, suc, _+_, _-_, _*_, _/_, _%_, _^_, _≤_, _<_}
-use native.Mathlib.Nat.{le-of-eq, lt-of-lt-of-le, eq-or-lt-of-le, eq-zero-or-pos, mul-comm, mul-assoc, mul-one, mul-pos, suc-mul, mul-le-mul, mul-le-mul-right, mul-lt-mul-of-pos-right}
+use native.Mathlib.Nat.{le-of-eq, le-of-lt, lt-of-le-of-lt, lt-of-lt-of-le, eq-or-lt-of-le, eq-zero-or-pos, mod-lt, div-add-mod', mul-comm, mul-assoc, mul-one, mul-pos, suc-mul, mul-le-mul, mul-le-mul-right, mul-lt-mul-of-pos-right}
 use native.Mathlib.Omega.{arith}
 use lib.Dec.{eqb}
 use lib.Arith.{digits-div, digits-mod}
@@ -11,7 +11,7 @@ use lib.Pow.{pow-add, pow-pos, pow-mono}
 use borrow.Author.Tests.{eq-eqb, ne-eqb}
 use Rattle.floating.specs.Format.{Format, exponentOf, fractionOf, significandOf}
 use Rattle.floating.specs.Exact.{sizeOf}
-use Rattle.floating.specs.Steps.{magnitude, rank}
+use Rattle.floating.specs.Steps.{magnitude, sizeAt, rank}
 use Rattle.floating.proofs.Products.{size-none, size-some}
 use Rattle.floating.proofs.Packing.{Sound, fraction-lt}
 
@@ -42,69 +42,77 @@ module _ (q ea xa eb xb : ℕ) (Q : 0 < q) (ha : xa < q) (hb : xb < q) where
   rest-less : eb * q + xb < ea * q + xa → eb ≡ ea → xb < xa
   rest-less h e = let m : eb * q ≡ ea * q = ap (λ (z : ℕ). z * q) e in omega arith
 
-  first-same : ea * q + xa ≡ eb * q + xb → ea ≡ eb
-  first-same h = sym (digits-div ea ha) ∙ ap (λ (z : ℕ). z / q) h ∙ digits-div eb hb
+  -- as the exponents and the fractions of two numbers
+  digits-larger : eb * q + xb < ea * q + xa → (eb ≤ ea) × (q + xb < (q + xa) * 2 ^ (ea - eb))
+  digits-larger h = (first-less h, go (eq-or-lt-of-le (first-less h)))
+    where
+      go : (eb ≡ ea) ⊎ (eb < ea) → q + xb < (q + xa) * 2 ^ (ea - eb)
+      go (inl e) =
+          let z : ea - eb ≡ 0 = omega arith in
+          let p : (q + xa) * 2 ^ (ea - eb) ≡ q + xa = ap (λ (y : ℕ). (q + xa) * 2 ^ y) z ∙ mul-one (q + xa) in
+          let r = rest-less h e in
+          lt-of-lt-of-le (omega arith) (le-of-eq (sym p))
+      go (inr g) = larger q (q + xa) (q + xb) (ea - eb) (omega arith) (omega arith) (omega arith)
 
-  rest-same : ea * q + xa ≡ eb * q + xb → xa ≡ xb
-  rest-same h = sym (digits-mod ea ha) ∙ ap (λ (z : ℕ). z % q) h ∙ digits-mod eb hb
+-- ---- sizes by their magnitudes
+module _ (f : Format) (k l : ℕ) where
+  pub larger-at : l < k → (l / 2 ^ (f .bits - 1) ≤ k / 2 ^ (f .bits - 1)) × (2 ^ (f .bits - 1) + l % 2 ^ (f .bits - 1) < (2 ^ (f .bits - 1) + k % 2 ^ (f .bits - 1)) * 2 ^ (k / 2 ^ (f .bits - 1) - l / 2 ^ (f .bits - 1)))
+  larger-at h =
+      let q = 2 ^ (f .bits - 1) in
+      let Q : 0 < q = pow-pos (f .bits - 1) in
+      digits-larger q (k / q) (k % q) (l / q) (l % q) Q (mod-lt k Q) (mod-lt l Q) (lt-of-le-of-lt (le-of-eq (div-add-mod' l q)) (lt-of-lt-of-le h (le-of-eq (sym (div-add-mod' k q)))))
+
+  pub size-less : l < k → sizeAt f l < sizeAt f k
+  size-less h =
+      let q = 2 ^ (f .bits - 1) in
+      let o = larger-at h in
+      let r : l / q ≤ k / q = o .0 in
+      let e : l / q + (k / q - l / q) ≡ k / q = omega arith in
+      less-apart (q + k % q) (q + l % q) (k / q) (l / q) (k / q - l / q) e (o .1)
+
+-- no larger, either way
+pub at-most : (f : Format) (k l : ℕ) → l ≤ k → (sizeAt f l ≤ sizeAt f k) × (2 ^ (f .bits - 1) + l % 2 ^ (f .bits - 1) ≤ (2 ^ (f .bits - 1) + k % 2 ^ (f .bits - 1)) * 2 ^ (k / 2 ^ (f .bits - 1) - l / 2 ^ (f .bits - 1)))
+at-most f k l h = go (eq-or-lt-of-le h)
+  where
+    q : ℕ
+    q = 2 ^ (f .bits - 1)
+
+    go : (l ≡ k) ⊎ (l < k) → (sizeAt f l ≤ sizeAt f k) × (q + l % q ≤ (q + k % q) * 2 ^ (k / q - l / q))
+    go (inl e) =
+        let z : k / q - l / q ≡ 0 = none (k / q) (l / q) (ap (λ (y : ℕ). y / q) e) in
+        (le-of-eq (ap (sizeAt f) e), le-of-eq (ap (λ (y : ℕ). q + y % q) e ∙ sym (ap (λ (y : ℕ). (q + k % q) * 2 ^ y) z ∙ mul-one (q + k % q))))
+      where
+        none : (x y : ℕ) → y ≡ x → x - y ≡ 0
+        none x y e = omega arith
+    go (inr g) = (le-of-lt (size-less f k l g), le-of-lt (larger-at f k l g .1))
 
 module _ (f : Format) (S : Sound f) where
-  significand-lt : (w : ℕ) → significandOf f w < 2 ^ (f .bits - 1) * 2
-  significand-lt w = let l = fraction-lt f S w in omega arith
+  -- the magnitude of a word gives its size
+  pub sized : (w k : ℕ) → k ≡ magnitude f w → (exponentOf f w ≡ 0 → ⊥) → sizeAt f k ≡ sizeOf f w
+  sized w k hk n =
+      let q = 2 ^ (f .bits - 1) in
+      ap (sizeAt f) hk
+      ∙ ap (λ (y : ℕ). (q + y) * 2 ^ (magnitude f w / q)) (digits-mod (exponentOf f w) (fraction-lt f S w))
+      ∙ ap (λ (y : ℕ). significandOf f w * 2 ^ y) (digits-div (exponentOf f w) (fraction-lt f S w))
+      ∙ sym (size-some f w n)
 
   module _ (a b : ℕ) where
-    pub larger-word : magnitude f b < magnitude f a → (exponentOf f b ≤ exponentOf f a) × (significandOf f b < significandOf f a * 2 ^ (exponentOf f a - exponentOf f b))
-    larger-word h = (l, go (eq-or-lt-of-le l))
-      where
-        q : ℕ
-        q = 2 ^ (f .bits - 1)
-
-        l : exponentOf f b ≤ exponentOf f a
-        l = first-less (2 ^ (f .bits - 1)) (exponentOf f a) (fractionOf f a) (exponentOf f b) (fractionOf f b) (pow-pos (f .bits - 1)) (fraction-lt f S a) (fraction-lt f S b) h
-
-        go : (exponentOf f b ≡ exponentOf f a) ⊎ (exponentOf f b < exponentOf f a) → significandOf f b < significandOf f a * 2 ^ (exponentOf f a - exponentOf f b)
-        go (inl e) =
-            let z : exponentOf f a - exponentOf f b ≡ 0 = omega arith in
-            let p : significandOf f a * 2 ^ (exponentOf f a - exponentOf f b) ≡ significandOf f a = ap (λ (y : ℕ). significandOf f a * 2 ^ y) z ∙ mul-one (significandOf f a) in
-            let r = rest-less (2 ^ (f .bits - 1)) (exponentOf f a) (fractionOf f a) (exponentOf f b) (fractionOf f b) (pow-pos (f .bits - 1)) (fraction-lt f S a) (fraction-lt f S b) h e in
-            lt-of-lt-of-le (omega arith) (le-of-eq (sym p))
-        go (inr g) = larger (2 ^ (f .bits - 1)) (significandOf f a) (significandOf f b) (exponentOf f a - exponentOf f b) (omega arith) (significand-lt b) (omega arith)
-
-    pub larger-size : 0 < exponentOf f a → 0 < exponentOf f b → magnitude f b < magnitude f a → sizeOf f b < sizeOf f a
+    larger-size : 0 < exponentOf f a → 0 < exponentOf f b → magnitude f b < magnitude f a → sizeOf f b < sizeOf f a
     larger-size na nb h =
-        let o = larger-word h in
-        let l : exponentOf f b ≤ exponentOf f a = o .0 in
-        let e : exponentOf f b + (exponentOf f a - exponentOf f b) ≡ exponentOf f a = omega arith in
-        let m = less-apart (significandOf f a) (significandOf f b) (exponentOf f a) (exponentOf f b) (exponentOf f a - exponentOf f b) e (o .1) in
-        subst (λ (z : ℕ). z < sizeOf f a) (sym (size-some f b (λ z. omega arith))) (subst (λ (z : ℕ). significandOf f b * 2 ^ exponentOf f b < z) (sym (size-some f a (λ z. omega arith))) m)
-
-    pub same-size : magnitude f a ≡ magnitude f b → sizeOf f a ≡ sizeOf f b
-    same-size h =
-        let e = first-same (2 ^ (f .bits - 1)) (exponentOf f a) (fractionOf f a) (exponentOf f b) (fractionOf f b) (pow-pos (f .bits - 1)) (fraction-lt f S a) (fraction-lt f S b) h in
-        let x = rest-same (2 ^ (f .bits - 1)) (exponentOf f a) (fractionOf f a) (exponentOf f b) (fractionOf f b) (pow-pos (f .bits - 1)) (fraction-lt f S a) (fraction-lt f S b) h in
-        made (exponentOf f a) (exponentOf f b) (fractionOf f a) (fractionOf f b) e x
-      where
-        made : (i j x y : ℕ) → i ≡ j → x ≡ y → cond (eqb i 0) 0 ((2 ^ (f .bits - 1) + x) * 2 ^ i) ≡ cond (eqb j 0) 0 ((2 ^ (f .bits - 1) + y) * 2 ^ j)
-        made i j x y e h = ap (λ (z : ℕ). cond (eqb z 0) 0 ((2 ^ (f .bits - 1) + x) * 2 ^ z)) e ∙ ap (λ (z : ℕ). cond (eqb j 0) 0 ((2 ^ (f .bits - 1) + z) * 2 ^ j)) h
+        subst (λ (z : ℕ). z < sizeOf f a) (sized b (magnitude f b) refl (λ z. omega arith)) (subst (λ (z : ℕ). sizeAt f (magnitude f b) < z) (sized a (magnitude f a) refl (λ z. omega arith)) (size-less f (magnitude f a) (magnitude f b) h))
 
   -- ---- the rank, which knows zero
-  pub rank-none : (w e : ℕ) → e ≡ exponentOf f w → e ≡ 0 → 0 ≡ rank f w
-  rank-none w e he z = sym (simp (eq-eqb (exponentOf f w) 0 (sym he ∙ z)))
-
-  pub rank-some : (w e r : ℕ) → e ≡ exponentOf f w → (e ≡ 0 → ⊥) → r ≡ magnitude f w → r ≡ rank f w
-  rank-some w e r he ne hr = hr ∙ sym (simp (ne-eqb (exponentOf f w) 0 (λ z. ne (he ∙ z))))
-
   pub size-pos : (w : ℕ) → 0 < exponentOf f w → 0 < sizeOf f w
   size-pos w h = subst (λ (z : ℕ). 0 < z) (sym (size-some f w (λ z. omega arith))) (mul-pos some (pow-pos (exponentOf f w)))
     where
       some : 0 < significandOf f w
       some = let p = pow-pos (f .bits - 1) in omega arith
 
-  zero-rank : (w : ℕ) → exponentOf f w ≡ 0 → rank f w ≡ 0
-  zero-rank w z = sym (rank-none w (exponentOf f w) refl z)
+  pub zero-rank : (w : ℕ) → exponentOf f w ≡ 0 → rank f w ≡ 0
+  zero-rank w z = simp (eq-eqb (exponentOf f w) 0 z)
 
-  full-rank : (w : ℕ) → 0 < exponentOf f w → rank f w ≡ magnitude f w
-  full-rank w h = sym (rank-some w (exponentOf f w) (magnitude f w) refl (λ z. omega arith) refl)
+  pub full-rank : (w : ℕ) → 0 < exponentOf f w → rank f w ≡ magnitude f w
+  full-rank w h = let n : (exponentOf f w ≡ 0 → ⊥) = λ z. omega arith in simp (ne-eqb (exponentOf f w) 0 n)
 
   module _ (a b : ℕ) where
     pub rank-less : rank f b < rank f a → sizeOf f b < sizeOf f a
@@ -131,4 +139,4 @@ module _ (f : Format) (S : Sound f) where
         go (inl p) (inl q) = size-none f a p ∙ sym (size-none f b q)
         go (inl p) (inr q) = absurd (some b q (sym h ∙ zero-rank a p))
         go (inr p) (inl q) = absurd (some a p (h ∙ zero-rank b q))
-        go (inr p) (inr q) = same-size a b (sym (full-rank a p) ∙ h ∙ full-rank b q)
+        go (inr p) (inr q) = sym (sized a (magnitude f a) refl (λ z. omega arith)) ∙ ap (sizeAt f) (sym (full-rank a p) ∙ h ∙ full-rank b q) ∙ sized b (magnitude f b) refl (λ z. omega arith)

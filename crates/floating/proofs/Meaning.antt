@@ -93,18 +93,10 @@ module _ (f : Format) (S : Sound f) where
       let el = exponent-lt f S w in
       let rg = S .range in
       let P = S .first in
-      let top : 0 + e ≤ 0 + f .largest = omega arith in
-      let low : 0 < 0 + e = positive e n in
+      let top : e ≤ f .largest = omega arith in
       let twice = double-power (f .bits) P in
       let hi : significandOf f w < 2 ^ (f .bits) = omega arith in
       let lo : 2 ^ (f .bits - 1) ≤ significandOf f w = omega arith in
-      let plain : 0 + e - 0 ≡ e = omega arith in
       let frac : significandOf f w - 2 ^ (f .bits - 1) ≡ x = omega arith in
-      let word : w ≡ wordOf f (signOf f w) (0 + e - 0) (significandOf f w - 2 ^ (f .bits - 1)) =
-      sym (repacked f S w h) ∙ ap (λ (z : ℕ). wordOf f (signOf f w) z x) (sym plain) ∙ ap (λ (z : ℕ). wordOf f (signOf f w) (0 + e - 0) z) (sym frac) in
-      sym
-      (alone-delivered f (Word w) (signOf f w) w e (significandOf f w) P refl n refl lo hi
-      (judged-word f (signOf f w) 0 (significandOf f w) 0 e 0 w low top word))
-    where
-      positive : (e : ℕ) → (e ≡ 0 → ⊥) → 0 < 0 + e
-      positive e n = omega arith
+      let word : w ≡ wordOf f (signOf f w) e (significandOf f w - 2 ^ (f .bits - 1)) = sym (repacked f S w h) ∙ ap (λ (z : ℕ). wordOf f (signOf f w) e z) (sym frac) in
+      sym (judged-word f (signOf f w) e (significandOf f w) e w n top word ∙ alone-delivered f (signOf f w) w e (significandOf f w) P refl n refl lo hi)

@@ -1,20 +1,20 @@
 -- How two words lie to each other, by their signs and ranks. Assumes nothing.
 use mathlib.Core.Path.{_≡_, refl, sym, ap, _∙_, subst}
 use mathlib.Core.Logic.{_⊎_, inl, inr}
-use mathlib.Core.Bool.{Bool, true, false, not, cond}
-use Prim.Native.Nat.{ℕ, zero, suc, _+_, _-_, _*_, _%_, _^_, _≤_, _<_}
-use native.Mathlib.Nat.{le-of-eq, le-of-lt, eq-zero-or-pos, mul-pos, mul-lt-mul-of-pos-right}
+use mathlib.Core.Bool.{Bool, true, false, not, cond, _||_, Bool·beq}
+use Prim.Native.Nat.{ℕ, zero, suc, _+_, _-_, _*_, _/_, _%_, _^_, _≤_, _<_}
+use native.Mathlib.Nat.{le-of-eq, le-of-lt, eq-zero-or-pos, mod-lt, mul-pos, mul-lt-mul-of-pos-right}
 use native.Mathlib.Omega.{arith}
-use lib.Dec.{eqb}
+use lib.Dec.{T, eqb, ltb, ltb→lt, nltb→le, lit<}
 use lib.Pow.{pow-pos}
-use borrow.Author.Tests.{eq-eqb, ne-eqb, lt-ltb, le-ltb}
-use Rattle.floating.specs.Format.{Format, signOf, exponentOf, isReserved}
+use borrow.Author.Tests.{eq-eqb, ne-eqb, eqb-false, lt-ltb, le-ltb}
+use Rattle.floating.specs.Format.{Format, F, signOf, exponentOf, isReserved}
 use Rattle.floating.specs.Exact.{Exact, sizeOf, valueOf, minus}
 use Rattle.floating.specs.Operations.{side, holds, compared}
-use Rattle.floating.specs.Steps.{rank}
-use Rattle.floating.proofs.Packing.{Sound}
+use Rattle.floating.specs.Steps.{turned, magnitude, rank, level}
+use Rattle.floating.proofs.Packing.{Sound, F-sound, exponent-lt, fraction-lt, turned-split}
 use Rattle.floating.proofs.Magnitude.{size-pos, rank-less, rank-same}
-use Rattle.floating.proofs.Sums.{together-same, together-more, together-less}
+use Rattle.floating.proofs.Sums.{Test, same, less, more, order, signs, together-same, together-more, together-less}
 
 -- ---- the side of an exact number
 side-zero : (x : Exact) → x .num ≡ 0 → side x ≡ 1
@@ -41,7 +41,7 @@ module _ (f : Format) (S : Sound f) where
       go (inr p) = size-pos f S w p
 
   module _ (a b s : ℕ) (ra : isReserved f a ≡ false) (rb : isReserved f b ≡ false) (hs : s ≡ signOf f a) where
-    pub sides-apart : (t : ℕ) → t ≡ signOf f b → (s ≡ t → ⊥) → s * 2 ≡ side (minus (valueOf f a) (valueOf f b))
+    sides-apart : (t : ℕ) → t ≡ signOf f b → (s ≡ t → ⊥) → s * 2 ≡ side (minus (valueOf f a) (valueOf f b))
     sides-apart t ht n =
         let x = sizeOf f a in
         let y = sizeOf f b in
@@ -73,7 +73,7 @@ module _ (f : Format) (S : Sound f) where
       differ : signOf f a ≡ 1 - signOf f b → ⊥
       differ e = omega arith
 
-      pub sides-equal : (p q : ℕ) → p ≡ rank f a → q ≡ rank f b → p ≡ q → 1 ≡ side (minus (valueOf f a) (valueOf f b))
+      sides-equal : (p q : ℕ) → p ≡ rank f a → q ≡ rank f b → p ≡ q → 1 ≡ side (minus (valueOf f a) (valueOf f b))
       sides-equal p q hp hq e =
           let z : sizeOf f a ≡ sizeOf f b = rank-same f S a b (sym hp ∙ e ∙ hq) in
           sym (ap side (together-less (signOf f a) (sizeOf f a * 2 ^ (f .bits + f .excess)) (1 - signOf f b) (sizeOf f b * 2 ^ (f .bits + f .excess)) (2 ^ (f .bits + f .excess) * 2 ^ (f .bits + f .excess)) differ (le-of-eq (ap (λ (k : ℕ). k * 2 ^ (f .bits + f .excess)) z))) ∙ side-zero (record { sign = 1 - signOf f b; num = sizeOf f b * 2 ^ (f .bits + f .excess) - sizeOf f a * 2 ^ (f .bits + f .excess); den = 2 ^ (f .bits + f .excess) * 2 ^ (f .bits + f .excess) }) (none (sizeOf f a) (sizeOf f b) (2 ^ (f .bits + f .excess)) z))
@@ -87,14 +87,14 @@ module _ (f : Format) (S : Sound f) where
       left-over : (x y : ℕ) → y < x → x - y ≡ 0 → ⊥
       left-over x y l z = omega arith
 
-      pub sides-more : (p q : ℕ) → p ≡ rank f a → q ≡ rank f b → q < p → s * 2 ≡ side (minus (valueOf f a) (valueOf f b))
+      sides-more : (p q : ℕ) → p ≡ rank f a → q ≡ rank f b → q < p → s * 2 ≡ side (minus (valueOf f a) (valueOf f b))
       sides-more p q hp hq l =
           let z : sizeOf f b < sizeOf f a = rank-less f S a b (subst (λ (k : ℕ). k < rank f a) hq (subst (λ (k : ℕ). q < k) hp l)) in
           let y : sizeOf f b * 2 ^ (f .bits + f .excess) < sizeOf f a * 2 ^ (f .bits + f .excess) = mul-lt-mul-of-pos-right z (pow-pos (f .bits + f .excess)) in
           ap (λ (k : ℕ). k * 2) hs
           ∙ sym (ap side (together-more (signOf f a) (sizeOf f a * 2 ^ (f .bits + f .excess)) (1 - signOf f b) (sizeOf f b * 2 ^ (f .bits + f .excess)) (2 ^ (f .bits + f .excess) * 2 ^ (f .bits + f .excess)) differ y) ∙ side-some (record { sign = signOf f a; num = sizeOf f a * 2 ^ (f .bits + f .excess) - sizeOf f b * 2 ^ (f .bits + f .excess); den = 2 ^ (f .bits + f .excess) * 2 ^ (f .bits + f .excess) }) (left-over (sizeOf f a * 2 ^ (f .bits + f .excess)) (sizeOf f b * 2 ^ (f .bits + f .excess)) y) (omega arith))
 
-      pub sides-less : (p q : ℕ) → p ≡ rank f a → q ≡ rank f b → (p ≡ q → ⊥) → p ≤ q → 2 - s * 2 ≡ side (minus (valueOf f a) (valueOf f b))
+      sides-less : (p q : ℕ) → p ≡ rank f a → q ≡ rank f b → (p ≡ q → ⊥) → p ≤ q → 2 - s * 2 ≡ side (minus (valueOf f a) (valueOf f b))
       sides-less p q hp hq n l =
           let l' : p < q = omega arith in
           let z : sizeOf f a < sizeOf f b = rank-less f S b a (subst (λ (k : ℕ). k < rank f b) hp (subst (λ (k : ℕ). p < k) hq l')) in
@@ -103,12 +103,154 @@ module _ (f : Format) (S : Sound f) where
           w
           ∙ sym (ap side (together-less (signOf f a) (sizeOf f a * 2 ^ (f .bits + f .excess)) (1 - signOf f b) (sizeOf f b * 2 ^ (f .bits + f .excess)) (2 ^ (f .bits + f .excess) * 2 ^ (f .bits + f .excess)) differ (le-of-lt y)) ∙ side-some (record { sign = 1 - signOf f b; num = sizeOf f b * 2 ^ (f .bits + f .excess) - sizeOf f a * 2 ^ (f .bits + f .excess); den = 2 ^ (f .bits + f .excess) * 2 ^ (f .bits + f .excess) }) (left-over (sizeOf f b * 2 ^ (f .bits + f .excess)) (sizeOf f a * 2 ^ (f .bits + f .excess)) y) (omega arith))
 
--- ---- the relation, and the answer
-pub holds-low : (relation o : ℕ) → relation < 4 → eqb o relation ≡ holds relation o
-holds-low relation o h = sym (simp (lt-ltb relation 4 h))
+-- ---- by the levels
+-- the level of a number that is not reserved
+level-is : (w : ℕ) → w < 4294967296 → isReserved F w ≡ false → level F w ≡ signOf F w * 2147483648 + rank F w
+level-is w l n = go (eqb (exponentOf F w) 0) refl
+  where
+    sign-none : eqb (exponentOf F w) 0 ≡ true → signOf F w ≡ 0
+    sign-none e =
+        let s : eqb (signOf F w) 1 ≡ false = ap (λ (z : Bool). cond z (eqb (signOf F w) 1) false) (sym e) ∙ n in
+        let d : (signOf F w ≡ 1 → ⊥) = eqb-false (signOf F w) 1 s in
+        omega (arith, d)
 
-pub holds-high : (relation o : ℕ) → 4 ≤ relation → not (eqb o (relation - 4)) ≡ holds relation o
-holds-high relation o h = sym (simp (le-ltb relation 4 h))
+    go : (t : Bool) → eqb (exponentOf F w) 0 ≡ t → cond t 0 (turned w) ≡ signOf F w * 2147483648 + cond t 0 (magnitude F w)
+    go true e = let z = sign-none e in omega arith
+    go false e = turned-split w l
+
+pub level-made : (w e t r : ℕ) → e ≡ exponentOf F w → t ≡ turned w → r ≡ cond (eqb e 0) 0 t → r ≡ level F w
+level-made w e t r he ht hr = hr ∙ ap (λ (z : ℕ). cond (eqb z 0) 0 t) he ∙ ap (λ (z : ℕ). cond (eqb (exponentOf F w) 0) 0 z) ht
+
+rank-lt : (w : ℕ) → rank F w < 2147483648
+rank-lt w = go (eqb (exponentOf F w) 0)
+  where
+    go : (t : Bool) → cond t 0 (magnitude F w) < 2147483648
+    go true = lit< tt
+    go false = let e = exponent-lt F F-sound w in let x = fraction-lt F F-sound w in omega arith
+
+-- the code's number of a pair, which rises where the first is less
+module _ (x y p q : ℕ) (hp : p ≡ cond (ltb x y) 2 0) (hq : q ≡ cond (eqb x y) 1 0) where
+  rising-less : x < y → p + q ≡ 2
+  rising-less h =
+      let n : (x ≡ y → ⊥) = λ e. omega arith in
+      let a : p ≡ 2 = hp ∙ ap (λ (z : Bool). cond z 2 0) (lt-ltb x y h) in
+      let b : q ≡ 0 = hq ∙ ap (λ (z : Bool). cond z 1 0) (ne-eqb x y n) in
+      omega arith
+
+  rising-same : x ≡ y → p + q ≡ 1
+  rising-same e =
+      let a : p ≡ 0 = hp ∙ ap (λ (z : Bool). cond z 2 0) (le-ltb x y (le-of-eq (sym e))) in
+      let b : q ≡ 1 = hq ∙ ap (λ (z : Bool). cond z 1 0) (eq-eqb x y e) in
+      omega arith
+
+  rising-more : y < x → p + q ≡ 0
+  rising-more h =
+      let n : (x ≡ y → ⊥) = λ e. omega arith in
+      let a : p ≡ 0 = hp ∙ ap (λ (z : Bool). cond z 2 0) (le-ltb x y (le-of-lt h)) in
+      let b : q ≡ 0 = hq ∙ ap (λ (z : Bool). cond z 1 0) (ne-eqb x y n) in
+      omega arith
+
+  pub rising-most : p + q ≤ 2
+  rising-most = go (order x y)
+    where
+      go : Test x y → p + q ≤ 2
+      go (same e) = let r = rising-same e in omega arith
+      go (less h) = let r = rising-less h in omega arith
+      go (more h) = let r = rising-more h in omega arith
+
+  module _ (r : ℕ) (hr : r ≡ cond (ltb 2147483647 x || ltb 2147483647 y) (2 - (p + q)) (p + q)) where
+    both-up : (k : ℕ) → x < 2147483648 → y < 2147483648 → p + q ≡ k → r ≡ k
+    both-up k hx hy e =
+        let a : ltb 2147483647 x ≡ false = le-ltb 2147483647 x (omega arith) in
+        let b : ltb 2147483647 y ≡ false = le-ltb 2147483647 y (omega arith) in
+        hr ∙ ap (λ (z : Bool). cond (z || ltb 2147483647 y) (2 - (p + q)) (p + q)) a ∙ ap (λ (z : Bool). cond z (2 - (p + q)) (p + q)) b ∙ e
+
+    one-down : (k : ℕ) → (ltb 2147483647 x || ltb 2147483647 y) ≡ true → p + q ≡ k → r ≡ 2 - k
+    one-down k t e = hr ∙ ap (λ (z : Bool). cond z (2 - (p + q)) (p + q)) t ∙ ap (λ (z : ℕ). 2 - z) e
+
+    left-down : 2147483647 < x → (ltb 2147483647 x || ltb 2147483647 y) ≡ true
+    left-down h = ap (λ (z : Bool). z || ltb 2147483647 y) (lt-ltb 2147483647 x h)
+
+    right-down : 2147483647 < y → (ltb 2147483647 x || ltb 2147483647 y) ≡ true
+    right-down h = ap (λ (z : Bool). ltb 2147483647 x || z) (lt-ltb 2147483647 y h) ∙ either (ltb 2147483647 x)
+      where
+        either : (t : Bool) → (t || true) ≡ true
+        either true = refl
+        either false = refl
+
+    module _ (s t u v : ℕ) (hx : x ≡ s * 2147483648 + u) (hy : y ≡ t * 2147483648 + v) (hs : s < 2) (ht : t < 2) (hu : u < 2147483648) (hv : v < 2147483648) where
+      by-signs : (s ≡ t → ⊥) → r ≡ s * 2
+      by-signs n = go (eq-zero-or-pos s)
+        where
+          go : (s ≡ 0) ⊎ (0 < s) → r ≡ s * 2
+          go (inl z) = one-down 2 (right-down (omega (arith, n))) (rising-less (omega (arith, n))) ∙ ap (λ (k : ℕ). k * 2) (sym z)
+          go (inr o) =
+              let e : s ≡ 1 = omega arith in
+              one-down 0 (left-down (omega arith)) (rising-more (omega (arith, n))) ∙ ap (λ (k : ℕ). k * 2) (sym e)
+
+      -- either way
+      by-ranks : (k : ℕ) → s ≡ t → p + q ≡ k → r ≡ cond (eqb s 1) (2 - k) k
+      by-ranks k e w = go (eq-zero-or-pos s)
+        where
+          go : (s ≡ 0) ⊎ (0 < s) → r ≡ cond (eqb s 1) (2 - k) k
+          go (inl z) = both-up k (omega arith) (omega arith) w ∙ ap (λ (j : ℕ). cond (eqb j 1) (2 - k) k) (sym z)
+          go (inr o) =
+              let i : s ≡ 1 = omega arith in
+              one-down k (left-down (omega arith)) w ∙ ap (λ (j : ℕ). cond (eqb j 1) (2 - k) k) (sym i)
+
+pub side-found : (a b x y p q r : ℕ) → a < 4294967296 → b < 4294967296 → isReserved F a ≡ false → isReserved F b ≡ false → x ≡ level F a → y ≡ level F b → p ≡ cond (ltb x y) 2 0 → q ≡ cond (eqb x y) 1 0 → r ≡ cond (ltb 2147483647 x || ltb 2147483647 y) (2 - (p + q)) (p + q) → r ≡ side (minus (valueOf F a) (valueOf F b))
+side-found a b x y p q r la lb na nb hx hy hp hq hr = go (signs (signOf F a) (signOf F b)) (order (rank F a) (rank F b))
+  where
+    ex : x ≡ signOf F a * 2147483648 + rank F a
+    ex = hx ∙ level-is a la na
+
+    ey : y ≡ signOf F b * 2147483648 + rank F b
+    ey = hy ∙ level-is b lb nb
+
+    bit : (w : ℕ) → signOf F w < 2
+    bit w = mod-lt (w / 32768) (lit< tt)
+
+    ranked : (k o : ℕ) → signOf F a ≡ signOf F b → p + q ≡ k → cond (eqb (signOf F a) 1) (2 - k) k ≡ o → r ≡ o
+    ranked k o e w h = by-ranks x y p q hp hq r hr (signOf F a) (signOf F b) (rank F a) (rank F b) ex ey (bit a) (bit b) (rank-lt a) (rank-lt b) k e w ∙ h
+
+    twice : (s : ℕ) → s < 2 → cond (eqb s 1) 2 0 ≡ s * 2
+    twice zero l = refl
+    twice (suc zero) l = refl
+    twice (suc (suc k)) l = absurd (omega arith)
+
+    less-twice : (s : ℕ) → s < 2 → cond (eqb s 1) 0 2 ≡ 2 - s * 2
+    less-twice zero l = refl
+    less-twice (suc zero) l = refl
+    less-twice (suc (suc k)) l = absurd (omega arith)
+
+    alike : (t : Bool) → _≡_ {A = ℕ} (cond t 1 1) 1
+    alike true = refl
+    alike false = refl
+
+    go : (signOf F a ≡ signOf F b) ⊎ (signOf F a ≡ signOf F b → ⊥) → Test (rank F a) (rank F b) → r ≡ side (minus (valueOf F a) (valueOf F b))
+    go (inr n) o = by-signs x y p q hp hq r hr (signOf F a) (signOf F b) (rank F a) (rank F b) ex ey (bit a) (bit b) (rank-lt a) (rank-lt b) n ∙ sides-apart F F-sound a b (signOf F a) na nb refl (signOf F b) refl n
+    go (inl e) (same h) = ranked 1 1 e (rising-same x y p q hp hq (omega (arith, ex, ey))) (alike (eqb (signOf F a) 1)) ∙ sides-equal F F-sound a b (signOf F a) na nb refl (signOf F b) refl e (rank F a) (rank F b) refl refl h
+    go (inl e) (more h) = ranked 0 (signOf F a * 2) e (rising-more x y p q hp hq (omega (arith, ex, ey))) (twice (signOf F a) (bit a)) ∙ sides-more F F-sound a b (signOf F a) na nb refl (signOf F b) refl e (rank F a) (rank F b) refl refl h
+    go (inl e) (less h) = ranked 2 (2 - signOf F a * 2) e (rising-less x y p q hp hq (omega (arith, ex, ey))) (less-twice (signOf F a) (bit a)) ∙ sides-less F F-sound a b (signOf F a) na nb refl (signOf F b) refl e (rank F a) (rank F b) refl refl (λ z. omega arith) (le-of-lt h)
+
+-- ---- the relation, and the answer
+pub holds-is : (relation o : ℕ) → relation < 8 → not (Bool·beq (eqb o (relation % 4)) (eqb (relation / 4 % 2) 1)) ≡ holds relation o
+holds-is relation o l = go (ltb relation 4) (ltb→lt relation 4) (nltb→le relation 4)
+  where
+    by : (k n : ℕ) → relation % 4 ≡ k → relation / 4 % 2 ≡ n → not (Bool·beq (eqb o (relation % 4)) (eqb (relation / 4 % 2) 1)) ≡ not (Bool·beq (eqb o k) (eqb n 1))
+    by k n e d = ap (λ (z : ℕ). not (Bool·beq (eqb o z) (eqb (relation / 4 % 2) 1))) e ∙ ap (λ (z : ℕ). not (Bool·beq (eqb o k) (eqb z 1))) d
+
+    plain : (t : Bool) → not (Bool·beq t false) ≡ t
+    plain true = refl
+    plain false = refl
+
+    opposite : (t : Bool) → not (Bool·beq t true) ≡ not t
+    opposite true = refl
+    opposite false = refl
+
+    go : (t : Bool) → (T t → relation < 4) → (T (not t) → 4 ≤ relation) → not (Bool·beq (eqb o (relation % 4)) (eqb (relation / 4 % 2) 1)) ≡ cond t (eqb o relation) (not (eqb o (relation - 4)))
+    go true g h = let k : relation < 4 = g tt in by relation 0 (omega arith) (omega arith) ∙ plain (eqb o relation)
+    go false g h = let k : 4 ≤ relation = h tt in by (relation - 4) 1 (omega arith) (omega arith) ∙ opposite (eqb o (relation - 4))
 
 module _ (f : Format) (relation a b : ℕ) where
   pub compare-left : (t : Bool) → t ≡ isReserved f a → t ≡ true → record { bit = false; types = 4 } ≡ compared f relation a b

@@ -1,14 +1,19 @@
 -- A format's fields fit into its words, and what is put into a word comes out of it. Over the format. Assumes nothing.
 use mathlib.Core.Path.{_≡_, refl, sym, ap, _∙_, subst}
 use Prim.Native.Nat.{ℕ, zero, suc, _+_, _-_, _*_, _/_, _%_, _^_, _≤_, _<_}
-use native.Mathlib.Nat.{le-of-eq, lt-of-lt-of-le, lt-of-le-of-lt, mul-comm, mul-assoc, add-mul, pow-suc, mod-lt, div-add-mod', div-div-eq-div-mul, div-lt-iff-lt-mul, mul-pos}
+use native.Mathlib.Nat.{le-of-eq, lt-of-lt-of-le, lt-of-le-of-lt, mul-comm, mul-assoc, add-mul, pow-suc, mod-lt, mod-eq-of-lt, div-add-mod', div-div-eq-div-mul, div-lt-iff-lt-mul, mul-pos}
 use native.Mathlib.Omega.{arith}
 use lib.Dec.{lit<, lit≤}
 use lib.Arith.{digits-lt, digits-div, digits-mod, mod-mul}
 use lib.Pow.{pow-add, pow-pos, mod-pow-add}
 use Rattle.floating.specs.Format.{Format, F, upward, signOf, exponentOf, fractionOf, wordOf}
+use Rattle.floating.specs.declared.Outcome.the-variants.{Word, Overflow, Underflow}
 use Rattle.floating.specs.Exact.{sizeOf}
+use Rattle.floating.specs.Round.{carried}
+use Rattle.floating.specs.Steps.{turned, magnitude, packed, settled}
 use Rattle.floating.proofs.Arithmetic.{double-power}
+use Rattle.floating.proofs.Rounding.{carried-in, carry-added}
+use Rattle.floating.proofs.Delivering.{judged-under, judged-over, judged-word}
 use Rattle.floating.proofs.Products.{size-some}
 
 -- what makes a format's numbers fit together: the fraction fills the word, and the exponents fill their field
@@ -160,3 +165,76 @@ module _ (f : Format) (S : Sound f) where
       ∙ ap (λ (z : ℕ). (Q + z) * 2 ^ exponentOf f w) xx
       ∙ ap (λ (z : ℕ). z * 2 ^ exponentOf f w) mm
       ∙ ap (λ (z : ℕ). m * 2 ^ z) ee
+
+-- ---- the fields of 32 bits, as the code reads them
+half-split : (w : ℕ) → w % 32768 ≡ w / 128 % 256 * 128 + w % 128
+half-split w = mod-pow-add w 8 7
+
+pub magnitude-is : (w : ℕ) → w < 4294967296 → w % 32768 * 65536 + w / 65536 ≡ magnitude F w
+magnitude-is w l =
+    let h = half-split w in
+    let g : w / 65536 < 65536 = omega arith in
+    let k : w / 65536 % 65536 ≡ w / 65536 = mod-eq-of-lt g in
+    omega arith
+
+pub turned-split : (w : ℕ) → w < 4294967296 → turned w ≡ signOf F w * 2147483648 + magnitude F w
+turned-split w l =
+    let h : w % 65536 ≡ w / 32768 % 2 * 32768 + w % 32768 = mod-pow-add w 1 15 in
+    let m = magnitude-is w l in
+    omega arith
+
+pub magnitude-in : (w k : ℕ) → k ≡ magnitude F w → (exponentOf F w ≡ 0 → ⊥) → (8388608 ≤ k) × (k < 2147483648)
+magnitude-in w k hk n = let e = exponent-lt F F-sound w in let x = fraction-lt F F-sound w in (omega (arith, n), omega arith)
+
+-- ---- a rounded number in 32 bits, as the code packs it
+turned-is : (s e x : ℕ) → s < 2 → e ≤ 255 → x < 8388608 → turned (s * 2147483648 + (e * 8388608 + x)) ≡ wordOf F s e x
+turned-is s e x hs he hx =
+    let h = x / 65536 in
+    let l = x % 65536 in
+    let l' : l < 65536 = mod-lt x (lit< tt) in
+    let v : s * 2147483648 + (e * 8388608 + x) ≡ (s * 32768 + e * 128 + h) * 65536 + l = omega arith in
+    ap turned v
+    ∙ ap (λ (z : ℕ). z * 65536 + ((s * 32768 + e * 128 + h) * 65536 + l) / 65536) (digits-mod (s * 32768 + e * 128 + h) l')
+    ∙ ap (λ (z : ℕ). l * 65536 + z) (digits-div (s * 32768 + e * 128 + h) l')
+    ∙ last s e h l l'
+  where
+    last : (s e h l : ℕ) → l < 65536 → l * 65536 + (s * 32768 + e * 128 + h) ≡ s * 32768 + e * 128 + h + (l % 65536 * 1 + 0) * 65536
+    last s e h l g = omega arith
+
+pub settled-under : (s e m : ℕ) → e ≡ 0 → Underflow ≡ settled F s e m
+settled-under s e m h = judged-under F s e (carried 24 m e .sig) (carried 24 m e .exp) h
+
+module _ (s e m k : ℕ) (E : 0 < e) (lo : 8388608 ≤ m) (hi : m ≤ 16777216) (hk : k ≡ packed F e m) where
+  told : k ≡ carried 24 m e .exp * 8388608 + (carried 24 m e .sig - 8388608)
+  told = hk ∙ carry-added 24 e m (lit< tt) E lo hi
+
+  below : carried 24 m e .sig - 8388608 < 8388608
+  below = let b = carried-in 24 m e (lit< tt) lo in less (carried 24 m e .sig) (b .0) (b .1)
+    where
+      less : (y : ℕ) → 8388608 ≤ y → y < 16777216 → y - 8388608 < 8388608
+      less y l h = omega arith
+
+  positive : e ≡ 0 → ⊥
+  positive z = omega arith
+
+  pub settled-over : 2147483647 < k → Overflow ≡ settled F s e m
+  settled-over h = judged-over F s e (carried 24 m e .sig) (carried 24 m e .exp) positive (past (carried 24 m e .exp) (carried 24 m e .sig - 8388608) below told h)
+    where
+      past : (a x : ℕ) → x < 8388608 → k ≡ a * 8388608 + x → 2147483647 < k → 255 < a
+      past a x l e h = omega arith
+
+  pub settled-word : (w : ℕ) → s < 2 → k ≤ 2147483647 → w ≡ turned (s * 2147483648 + k) → Word w ≡ settled F s e m
+  settled-word w hs h hw =
+      let a = carried 24 m e .exp in
+      let x = carried 24 m e .sig - 8388608 in
+      let l : a ≤ 255 = within a x told in
+      judged-word F s e (carried 24 m e .sig) a w positive l (hw ∙ ap (λ (z : ℕ). turned (s * 2147483648 + z)) told ∙ turned-is s a x hs l below)
+    where
+      within : (a x : ℕ) → k ≡ a * 8388608 + x → a ≤ 255
+      within a x e = omega arith
+
+-- ---- a word's own fields, packed
+pub magnitude-word : (s w k r : ℕ) → s < 2 → k ≡ magnitude F w → r ≡ turned (s * 2147483648 + k) → r ≡ wordOf F s (exponentOf F w) (fractionOf F w)
+magnitude-word s w k r hs hk hr =
+    let l = exponent-lt F F-sound w in
+    hr ∙ ap (λ (z : ℕ). turned (s * 2147483648 + z)) hk ∙ turned-is s (exponentOf F w) (fractionOf F w) hs (omega arith) (fraction-lt F F-sound w)

@@ -1,20 +1,70 @@
--- A reserved operand decides first, whatever the operation and the format. Assumes nothing.
-use mathlib.Core.Path.{_≡_, sym, _∙_}
-use mathlib.Core.Bool.{Bool, true, false}
+-- What an element receives of an outcome, and a reserved operand, which decides first. Assumes nothing.
+use mathlib.Core.Path.{_≡_, refl, sym, ap, _∙_}
+use mathlib.Core.Bool.{Bool, true, false, cond, _||_}
 use Prim.Native.Nat.{ℕ}
+use native.Mathlib.Omega.{arith}
+use lib.Dec.{eqb}
+use borrow.Author.Tests.{eqb-true, eqb-false, ne-eqb}
 use Rattle.floating.specs.declared.Outcome.{Outcome}
-use Rattle.floating.specs.declared.Outcome.the-variants.{Reserved}
-use Rattle.floating.specs.Format.{Format, isReserved}
-use Rattle.floating.specs.Exact.{Exact, valueOf}
-use Rattle.floating.specs.Delivered.{delivered}
-use Rattle.floating.specs.Operations.{both}
+use Rattle.floating.specs.declared.Outcome.the-variants.{Word, Overflow, Underflow, Reserved}
+use Rattle.floating.specs.declared.Answer.{Answer}
+use Rattle.floating.specs.Format.{Format, exponentOf, isReserved}
+use Rattle.floating.specs.Operations.{answered}
 
-module _ (f : Format) (op : Exact → Exact → Exact) (a b : ℕ) where
-  pub reserved-left : (t : Bool) → t ≡ isReserved f a → t ≡ true → Reserved ≡ both f op a b
-  reserved-left t h y = let e : isReserved f a ≡ true = sym h ∙ y in sym (simp e)
+-- ---- the answer to an outcome
+module _ (exc : Bool) (o : Outcome) where
+  pub answer-word : (w : ℕ) → Word w ≡ o → record { value = w; types = 0 } ≡ answered exc o
+  answer-word w h = ap (answered exc) h
 
-  pub reserved-right : (t u : Bool) → t ≡ isReserved f a → t ≡ false → u ≡ isReserved f b → u ≡ true → Reserved ≡ both f op a b
-  reserved-right t u h n g y = let e : isReserved f a ≡ false = sym h ∙ n in let e' : isReserved f b ≡ true = sym g ∙ y in sym (simp (e, e'))
+  pub answer-over : Overflow ≡ o → record { value = 0x8008; types = 8 } ≡ answered exc o
+  answer-over h = ap (answered exc) h
 
-  pub neither-reserved : (t u : Bool) (r : Outcome) → t ≡ isReserved f a → t ≡ false → u ≡ isReserved f b → u ≡ false → r ≡ delivered f (op (valueOf f a) (valueOf f b)) → r ≡ both f op a b
-  neither-reserved t u r h n g m e = let e1 : isReserved f a ≡ false = sym h ∙ n in let e2 : isReserved f b ≡ false = sym g ∙ m in e ∙ sym (simp (e1, e2))
+  pub answer-reserved : Reserved ≡ o → record { value = 0x8004; types = 4 } ≡ answered exc o
+  answer-reserved h = ap (answered exc) h
+
+  pub answer-under : (v t : ℕ) → v ≡ cond exc 0x8001 0 → t ≡ cond exc 1 0 → Underflow ≡ o → record { value = v; types = t } ≡ answered exc o
+  answer-under v t hv ht h = ap (λ (z : ℕ). record { value = z; types = t }) hv ∙ ap (λ (z : ℕ). record { value = cond exc 0x8001 0; types = z }) ht ∙ go exc ∙ ap (answered exc) h
+    where
+      go : (x : Bool) → record { value = cond x 0x8001 0; types = cond x 1 0 } ≡ answered x Underflow
+      go true = refl
+      go false = refl
+
+-- ---- a reserved operand, by the tests that the code makes
+module _ (p q t u : Bool) (x : Outcome) (ht : t ≡ p) (hu : u ≡ q) where
+  pub refused : (t || u) ≡ true → Reserved ≡ cond p Reserved (cond q Reserved x)
+  refused h = go t u h ∙ ap (λ (z : Bool). cond z Reserved (cond u Reserved x)) ht ∙ ap (λ (z : Bool). cond p Reserved (cond z Reserved x)) hu
+    where
+      go : (t u : Bool) → (t || u) ≡ true → Reserved ≡ cond t Reserved (cond u Reserved x)
+      go true u h = refl
+      go false true h = refl
+      go false false h = let z : _≡_ {A = ℕ} 0 1 = cc in absurd (omega arith)
+
+  pub passed : (t || u) ≡ false → x ≡ cond p Reserved (cond q Reserved x)
+  passed h = go t u h ∙ ap (λ (z : Bool). cond z Reserved (cond u Reserved x)) ht ∙ ap (λ (z : Bool). cond p Reserved (cond z Reserved x)) hu
+    where
+      go : (t u : Bool) → (t || u) ≡ false → x ≡ cond t Reserved (cond u Reserved x)
+      go true u h = let z : _≡_ {A = ℕ} 0 1 = cc in absurd (omega arith)
+      go false true h = let z : _≡_ {A = ℕ} 0 1 = cc in absurd (omega arith)
+      go false false h = refl
+
+-- ---- one test for both exponents
+module _ (x y a b : ℕ) (hx : x ≡ a) (hy : y ≡ b) where
+  pub none-zero : (eqb x 0 || eqb y 0) ≡ false → (a ≡ 0 → ⊥) × (b ≡ 0 → ⊥)
+  none-zero h = go (eqb x 0) (eqb y 0) refl refl h
+    where
+      go : (p q : Bool) → eqb x 0 ≡ p → eqb y 0 ≡ q → (p || q) ≡ false → (a ≡ 0 → ⊥) × (b ≡ 0 → ⊥)
+      go true q e g h = let z : _≡_ {A = ℕ} 0 1 = cc in absurd (omega arith)
+      go false true e g h = let z : _≡_ {A = ℕ} 0 1 = cc in absurd (omega arith)
+      go false false e g h = (λ z. eqb-false x 0 e (hx ∙ z), λ z. eqb-false y 0 g (hy ∙ z))
+
+  pub some-zero : (eqb x 0 || eqb y 0) ≡ true → (a ≡ 0 → ⊥) → b ≡ 0
+  some-zero h n = go (eqb x 0) (eqb y 0) refl refl h
+    where
+      go : (p q : Bool) → eqb x 0 ≡ p → eqb y 0 ≡ q → (p || q) ≡ true → b ≡ 0
+      go true q e g h = absurd (n (sym hx ∙ eqb-true x 0 e))
+      go false true e g h = sym hy ∙ eqb-true y 0 g
+      go false false e g h = let z : _≡_ {A = ℕ} 0 1 = cc in absurd (omega arith)
+
+-- a number is not reserved
+pub number-free : (f : Format) (w : ℕ) → (exponentOf f w ≡ 0 → ⊥) → false ≡ isReserved f w
+number-free f w n = sym (simp (ne-eqb (exponentOf f w) 0 n))

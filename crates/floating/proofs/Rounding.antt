@@ -2,7 +2,7 @@
 use mathlib.Core.Path.{_≡_, refl, sym, ap, _∙_, subst}
 use mathlib.Core.Logic.{_⊎_, inl, inr}
 use Prim.Native.Nat.{ℕ, suc, _+_, _-_, _*_, _/_, _^_, _≤_, _<_}
-use native.Mathlib.Nat.{le-trans, le-of-eq, le-antisymm, lt-of-le-of-lt, lt-of-lt-of-le, lt-of-not-le, not-le-of-lt, eq-or-lt-of-le, le-div-iff-mul-le, div-lt-iff-lt-mul, div-mul-le-self, lt-div-mul-add, div-div-eq-div-mul, mul-div-mul-right, add-mul-div-right, div-one, one-mul, mul-comm, mul-assoc, mul-left-comm, add-mul, mul-le-mul-right, mul-pos, pow-suc}
+use native.Mathlib.Nat.{le-trans, le-of-eq, le-antisymm, lt-of-le-of-lt, lt-of-lt-of-le, lt-of-not-le, not-le-of-lt, eq-or-lt-of-le, le-div-iff-mul-le, div-lt-iff-lt-mul, div-mul-le-self, lt-div-mul-add, div-div-eq-div-mul, mul-div-mul-right, add-mul-div-right, div-one, one-mul, suc-mul, mul-comm, mul-assoc, mul-left-comm, mul-right-comm, add-mul, mul-le-mul-left, mul-le-mul-right, le-of-mul-le-mul-right, lt-of-mul-lt-mul-right, mul-pos, pow-suc}
 use native.Mathlib.Omega.{arith}
 use mathlib.Core.Bool.{Bool, true, false, not, cond}
 use lib.Dec.{T, ltb, ltb→lt, nltb→le, lit<}
@@ -12,7 +12,7 @@ use lib.Ieee.Digits.{size-lt, size-le, size-reaches}
 use lib.Ieee.Nearest.{div-mono, div-same}
 use borrow.Author.Tests.{lt-ltb}
 use Rattle.floating.specs.Round.{near, places, Rounded, carried, rounded}
-use Rattle.floating.specs.Steps.{Enough, Normal, IsRounded}
+use Rattle.floating.specs.Steps.{Enough, Normal}
 use Rattle.floating.proofs.Arithmetic.{pow-two, double-power}
 
 -- ---- the nearest whole number
@@ -240,87 +240,78 @@ carried-steps p r k = go (ltb r (2 ^ p))
     go true = (omega arith, omega arith)
     go false = (omega arith, omega arith)
 
-pub rounded-in-at : (p num den : ℕ) → 0 < p → 0 < den → (k : ℕ) → Normal p num den k → (2 ^ (p - 1) ≤ rounded p num den .sig) × (rounded p num den .sig < 2 ^ p)
-rounded-in-at p num den P D k N = subst (λ (x : Rounded). (2 ^ (p - 1) ≤ x .sig) × (x .sig < 2 ^ p)) (sym (rounded-at p num den P D k N)) (carried-in p (near num (den * 2 ^ k)) k P (near-in p num den P D k N .0))
+-- ---- Where the whole part X of a fraction has more than p digits, it alone decides, and may be moved up to any length.
+module _ (p : ℕ) (P : 0 < p) (n d X z K : ℕ) (D : 0 < d) (ex : X ≡ n / d) (long : 2 ^ p ≤ X) (N : Normal p (X * 2 ^ z) 1 K) where
+  pub room : z < K
+  room =
+      let a : 2 ^ p * 2 ^ z < 2 ^ p * 2 ^ K = lt-of-le-of-lt (mul-le-mul-right (2 ^ z) long) (lt-of-lt-of-le (N .high) (le-of-eq (ap (λ (y : ℕ). y * 2 ^ p) (one-mul (2 ^ K)) ∙ mul-comm (2 ^ K) (2 ^ p)))) in
+      lt-of-not-le (λ (g : K ≤ z). not-le-of-lt a (mul-le-mul-left (2 ^ p) (pow-mono g)))
 
--- ---- as the code works it out: half a unit is added, and the low digits are cut off
-pub halves : (x u : ℕ) → near x (u * 2) ≡ (x + u) / (u * 2)
-halves x u = ap (λ (z : ℕ). z / (u * 2 * 2)) (sym (add-mul x u 2)) ∙ mul-div-mul-right (x + u) (u * 2) (pow-pos 1)
+  split : (q : ℕ) → 1 * 2 ^ K * q ≡ 2 ^ (K - z) * q * 2 ^ z
+  split q =
+      let k = K - z in
+      let h = room in
+      let e : k + z ≡ K = omega arith in
+      ap (λ (y : ℕ). y * q) (one-mul (2 ^ K) ∙ sym (pow-two k z K e)) ∙ mul-right-comm (2 ^ k) (2 ^ z) q
 
-pub cut : (x k : ℕ) → 0 < k → near x (1 * 2 ^ k) ≡ (x + 2 ^ (k - 1)) / 2 ^ k
-cut x k K =
-    let e : suc (k - 1) ≡ k = omega arith in
-    let u : 2 ^ k ≡ 2 ^ (k - 1) * 2 = ap (λ (z : ℕ). 2 ^ z) (sym e) ∙ pow-suc 2 (k - 1) in
-    ap (λ (z : ℕ). near x z) (one-mul (2 ^ k) ∙ u) ∙ halves x (2 ^ (k - 1)) ∙ ap (λ (z : ℕ). (x + 2 ^ (k - 1)) / z) (sym u)
-
-module _ (p : ℕ) (P : 0 < p) where
-  pub cut-in : (x k y : ℕ) → 0 < k → Normal p x 1 k → y ≡ (x + 2 ^ (k - 1)) / 2 ^ k → y ≤ 2 ^ p
-  cut-in x k y K N e = subst (λ (z : ℕ). z ≤ 2 ^ p) (cut x k K ∙ sym e) (near-in p x 1 P (lit< tt) k N .1)
-
-  -- what the carry was handed at x, with the unit 2 ^ k
-  pub made : (x k y b m e : ℕ) → 0 < k → Normal p x 1 k → y ≡ (x + 2 ^ (k - 1)) / 2 ^ k → b ≡ k → m ≡ carried p y k .sig → e ≡ carried p y k .exp → IsRounded p x 1 b m e
-  made x k y b m e K N hy hb hm he =
-      let at : rounded p x 1 ≡ carried p y k = rounded-at p x 1 P (lit< tt) k N ∙ ap (λ (z : ℕ). carried p z k) (cut x k K ∙ sym hy) in
-      let digits = rounded-in-at p x 1 P (lit< tt) k N in
-      let steps = carried-steps p y k in
-      let dm : m ≡ rounded p x 1 .sig = hm ∙ ap (λ (x : Rounded). x .sig) (sym at) in
+  pub floor-normal : Normal p n d (K - z)
+  floor-normal =
+      let k = K - z in
+      let low : 2 ^ k * 2 ^ (p - 1) ≤ n / d = le-trans (le-of-mul-le-mul-right (le-trans (le-of-eq (sym (split (2 ^ (p - 1))))) (N .low)) (pow-pos z)) (le-of-eq ex) in
+      let high : n / d < 2 ^ k * 2 ^ p = lt-of-le-of-lt (le-of-eq (sym ex)) (lt-of-mul-lt-mul-right (2 ^ z) (lt-of-lt-of-le (N .high) (le-of-eq (split (2 ^ p))))) in
       record {
-        is-before = hb ∙ sym (places-only p x 1 P (lit< tt) k N);
-        is-sig = dm;
-        is-after = he ∙ ap (λ (x : Rounded). x .exp) (sym at);
-        normal = subst (λ (z : ℕ). Normal p x 1 z) (sym hb) N;
-        low = subst (λ (z : ℕ). 2 ^ (p - 1) ≤ z) (sym dm) (digits .0);
-        high = subst (λ (z : ℕ). z < 2 ^ p) (sym dm) (digits .1);
-        least = subst (λ (z : ℕ). b ≤ z) (sym he) (subst (λ (z : ℕ). z ≤ carried p y k .exp) (sym hb) (steps .0));
-        most = subst (λ (z : ℕ). z ≤ b + 1) (sym he) (subst (λ (z : ℕ). carried p y k .exp ≤ z + 1) (sym hb) (steps .1));
+        low = le-trans (le-of-eq (mul-assoc d (2 ^ k) (2 ^ (p - 1)) ∙ mul-comm d (2 ^ k * 2 ^ (p - 1)))) (le-div-iff-mul-le D .0 low);
+        high = lt-of-lt-of-le (div-lt-iff-lt-mul D .0 high) (le-of-eq (sym (mul-assoc d (2 ^ k) (2 ^ p) ∙ mul-comm d (2 ^ k * 2 ^ p))));
       }
 
-  -- Where the whole part X of a fraction has more than p digits, what X rounds to is what the fraction rounds to.
-  pub of-floor : (n d X b m e : ℕ) → 0 < d → X ≡ n / d → 2 ^ p ≤ X → IsRounded p X 1 b m e → IsRounded p n d b m e
-  of-floor n d X b m e D ex h R =
-      let big : 2 ^ p ≤ n / d = le-trans h (le-of-eq ex) in
-      let room : d * 2 ^ p ≤ n = le-trans (le-of-eq (mul-comm d (2 ^ p))) (le-div-iff-mul-le D .0 big) in
-      let r : rounded p X 1 ≡ rounded p n d = ap (λ (z : ℕ). rounded p z 1) ex ∙ sym (rounded-floor p n d D room) in
-      let N = R .normal in
-      let low : 2 ^ b * 2 ^ (p - 1) ≤ n / d = le-trans (le-of-eq (ap (λ (z : ℕ). z * 2 ^ (p - 1)) (sym (one-mul (2 ^ b))))) (le-trans (N .low) (le-of-eq ex)) in
-      let high : n / d < 2 ^ b * 2 ^ p = lt-of-le-of-lt (le-of-eq (sym ex)) (lt-of-lt-of-le (N .high) (le-of-eq (ap (λ (z : ℕ). z * 2 ^ p) (one-mul (2 ^ b))))) in
-      record {
-        is-before = R .is-before ∙ ap (λ (z : ℕ). size z - p) (div-one X ∙ ex);
-        is-sig = R .is-sig ∙ ap (λ (x : Rounded). x .sig) r;
-        is-after = R .is-after ∙ ap (λ (x : Rounded). x .exp) r;
-        normal = record {
-          low = le-trans (le-of-eq (mul-assoc d (2 ^ b) (2 ^ (p - 1)) ∙ mul-comm d (2 ^ b * 2 ^ (p - 1)))) (le-div-iff-mul-le D .0 low);
-          high = lt-of-lt-of-le (div-lt-iff-lt-mul D .0 high) (le-of-eq (sym (mul-assoc d (2 ^ b) (2 ^ p) ∙ mul-comm d (2 ^ b * 2 ^ p))));
-        };
-        low = R .low;
-        high = R .high;
-        least = R .least;
-        most = R .most;
-      }
+  pub floor-near : near (X * 2 ^ z) (1 * 2 ^ K) ≡ near n (d * 2 ^ (K - z))
+  floor-near =
+      let k = K - z in
+      let h = room in
+      let e : k + z ≡ K = omega arith in
+      let s : suc (k - 1) ≡ k = omega arith in
+      let u : 2 ^ (k - 1) * 2 ≡ 2 ^ k = sym (pow-suc 2 (k - 1)) ∙ ap (λ (y : ℕ). 2 ^ y) s in
+      let same : X * 2 ^ z * 2 ^ k ≡ X * (1 * 2 ^ K) = mul-assoc X (2 ^ z) (2 ^ k) ∙ ap (λ (y : ℕ). X * y) (mul-comm (2 ^ z) (2 ^ k) ∙ pow-two k z K e ∙ sym (one-mul (2 ^ K))) in
+      near-same (X * 2 ^ z) (1 * 2 ^ K) X (2 ^ k) (mul-pos (lit< tt) (pow-pos K)) (pow-pos k) same
+      ∙ ap (λ (y : ℕ). near y (2 ^ k)) ex
+      ∙ sym (ap (λ (y : ℕ). near n (d * y)) (sym u) ∙ near-floor n d (2 ^ (k - 1)) D (pow-pos (k - 1)) ∙ ap (λ (y : ℕ). near (n / d) y) u)
 
-  -- a significand of p digits is its own rounding
-  pub itself : (m : ℕ) → 2 ^ (p - 1) ≤ m → m < 2 ^ p → IsRounded p m 1 0 m 0
-  itself m lo hi =
-      let e : 1 * 2 ^ 0 ≡ 1 = refl in
-      let N : Normal p m 1 0 = record {
-        low = le-trans (le-of-eq (one-mul (2 ^ (p - 1)))) lo;
-        high = lt-of-lt-of-le hi (le-of-eq (sym (one-mul (2 ^ p))));
-      } in
-      let w : near m 1 ≡ m = whole m in
-      let at : rounded p m 1 ≡ record { sig = m; exp = 0 } = rounded-at p m 1 P (lit< tt) 0 N ∙ ap (λ (z : ℕ). carried p z 0) w ∙ fits m hi in
-      record {
-        is-before = sym (places-only p m 1 P (lit< tt) 0 N);
-        is-sig = ap (λ (x : Rounded). x .sig) (sym at);
-        is-after = ap (λ (x : Rounded). x .exp) (sym at);
-        normal = N;
-        low = lo;
-        high = hi;
-        least = omega arith;
-        most = omega arith;
-      }
+-- ---- a significand of p digits is the nearest to itself
+module _ (p m : ℕ) (lo : 2 ^ (p - 1) ≤ m) (hi : m < 2 ^ p) where
+  pub itself-normal : Normal p m 1 0
+  itself-normal = record {
+    low = le-trans (le-of-eq (one-mul (2 ^ (p - 1)))) lo;
+    high = lt-of-lt-of-le hi (le-of-eq (sym (one-mul (2 ^ p))));
+  }
+
+  pub itself-near : m ≡ near m (1 * 2 ^ 0)
+  itself-near = whole m
     where
-      whole : (x : ℕ) → near x 1 ≡ x
+      whole : (x : ℕ) → x ≡ (x * 2 + 1) / 2
       whole x = omega arith
 
-      fits : (x : ℕ) → x < 2 ^ p → carried p x 0 ≡ record { sig = x; exp = 0 }
-      fits x h = simp (lt-ltb x (2 ^ p) h)
+  pub itself-carried : (e : ℕ) → carried p m e ≡ record { sig = m; exp = e }
+  itself-carried e = simp (lt-ltb m (2 ^ p) hi)
+
+-- ---- the exponent and the digits after the first, put together: the carry adds one to the exponent by itself
+pub carry-added : (p e m : ℕ) → 0 < p → 0 < e → 2 ^ (p - 1) ≤ m → m ≤ 2 ^ p → (e - 1) * 2 ^ (p - 1) + m ≡ carried p m e .exp * 2 ^ (p - 1) + (carried p m e .sig - 2 ^ (p - 1))
+carry-added p e m P E lo hi = go (ltb m (2 ^ p)) (nltb→le m (2 ^ p))
+  where
+    q : ℕ
+    q = 2 ^ (p - 1)
+
+    one-more : (e - 1) * q + q ≡ e * q
+    one-more = let s : suc (e - 1) ≡ e = omega arith in sym (suc-mul (e - 1) q) ∙ ap (λ (z : ℕ). z * q) s
+
+    go : (t : Bool) → (T (not t) → 2 ^ p ≤ m) → (e - 1) * q + m ≡ (by t p m e) .exp * q + ((by t p m e) .sig - q)
+    go true h = let o = one-more in omega arith
+    go false h =
+        let o = one-more in
+        let d = double-power p P in
+        let s : (e + 1) * q ≡ e * q + q = add-mul e 1 q ∙ ap (λ (z : ℕ). e * q + z) (one-mul q) in
+        let t : 2 ^ p ≤ m = h tt in
+        omega arith
+
+-- ---- 64 digits are 24 and 40
+pub normal-64 : (y : ℕ) → 9223372036854775808 ≤ y → y < 18446744073709551616 → Normal 24 y 1 40
+normal-64 y lo hi = record { low = lo; high = hi }

@@ -1,33 +1,37 @@
 -- The sum of two numbers of a format: its cases, and what the code's aligned sum and difference deliver. Assumes nothing.
-use mathlib.Core.Path.{_≡_, refl, sym, ap, _∙_}
+use mathlib.Core.Path.{_≡_, refl, sym, ap, _∙_, subst}
 use mathlib.Core.Logic.{_⊎_, inl, inr}
-use mathlib.Core.Bool.{Bool, true, false}
-use Prim.Native.Nat.{ℕ, _+_, _-_, _*_, _/_, _^_, _≤_, _<_}
-use native.Mathlib.Nat.{le-of-eq, le-of-lt, eq-zero-or-pos, mul-one, mul-comm, mul-assoc, mul-left-comm, add-comm, add-mul, mul-le-mul, mul-le-mul-right, mul-lt-mul-of-pos-right}
+use mathlib.Core.Bool.{Bool, true, false, not, cond, _||_}
+use Prim.Native.Nat.{ℕ, _+_, _-_, _*_, _/_, _%_, _^_, _≤_, _<_}
+use native.Mathlib.Nat.{le-of-eq, le-of-lt, eq-zero-or-pos, zero-mul, mul-one, mul-comm, mul-assoc, mul-left-comm, add-comm, add-mul, mul-le-mul, mul-le-mul-right, mul-lt-mul-of-pos-right, div-one}
 use native.Mathlib.Omega.{arith}
-use lib.Dec.{eqb, lit<}
+use lib.Dec.{T, eqb, ltb, ltb→lt, nltb→le, lit<}
 use lib.Pow.{pow-add, pow-pos}
 use borrow.Author.Tests.{eq-eqb, ne-eqb, lt-ltb, le-ltb, eqb-true, eqb-false}
 use Rattle.floating.specs.declared.Outcome.{Outcome}
-use Rattle.floating.specs.declared.Outcome.the-variants.{Word}
-use Rattle.floating.specs.Format.{Format, signOf, exponentOf, fractionOf, significandOf}
-use Rattle.floating.specs.Exact.{units, sizeOf, valueOf, together, plus, minus}
+use Rattle.floating.specs.declared.Outcome.the-variants.{Word, Reserved}
+use Rattle.floating.specs.Format.{Format, F, signOf, exponentOf, fractionOf, significandOf, isReserved, wordOf}
+use Rattle.floating.specs.Exact.{units, sizeOf, valueOf, together}
+use Rattle.floating.specs.Round.{near, Rounded}
 use Rattle.floating.specs.Delivered.{judged, delivered}
-use Rattle.floating.specs.Steps.{IsRounded, magnitude}
+use Rattle.floating.specs.Operations.{sum, difference}
+use Rattle.floating.specs.Steps.{Normal, turned, magnitude, sizeAt, settled, joint, combined}
 use Rattle.floating.proofs.Arithmetic.{sub-mul, double-power}
-use Rattle.floating.proofs.Rounding.{of-floor, itself}
-use Rattle.floating.proofs.Delivering.{delivered-zero, delivered-at, delivered-same}
+use Rattle.floating.proofs.Rounding.{normal-64, room, floor-normal, floor-near, itself-normal, itself-near, itself-carried}
+use Rattle.floating.proofs.Delivering.{judged-word, delivered-zero, delivered-near, delivered-same}
+use Rattle.floating.proofs.Align.{none-joint, some-long}
 use Rattle.floating.proofs.Products.{size-none, size-some}
-use Rattle.floating.proofs.Packing.{Sound, fraction-lt}
-use Rattle.floating.proofs.Magnitude.{apart, larger-word, larger-size, same-size}
+use Rattle.floating.proofs.Packing.{Sound, F-sound, fraction-lt, exponent-lt, magnitude-word}
+use Rattle.floating.proofs.Magnitude.{apart, at-most, sized}
+use Rattle.floating.proofs.Refusing.{passed, number-free}
 
 -- a test of two numbers, with what it says
-data Test (a b : ℕ) : Type 0 where
+pub data Test (a b : ℕ) : Type 0 where
   same : a ≡ b → Test a b
   less : a < b → Test a b
   more : b < a → Test a b
 
-order : (a b : ℕ) → Test a b
+pub order : (a b : ℕ) → Test a b
 order a b = go (eq-zero-or-pos (a - b)) (eq-zero-or-pos (b - a))
   where
     go : (a - b ≡ 0) ⊎ (0 < a - b) → (b - a ≡ 0) ⊎ (0 < b - a) → Test a b
@@ -35,7 +39,7 @@ order a b = go (eq-zero-or-pos (a - b)) (eq-zero-or-pos (b - a))
     go (inl p) (inr q) = less (omega arith)
     go (inr p) q = more (omega arith)
 
-signs : (s t : ℕ) → (s ≡ t) ⊎ (s ≡ t → ⊥)
+pub signs : (s t : ℕ) → (s ≡ t) ⊎ (s ≡ t → ⊥)
 signs s t = go (eqb s t) refl
   where
     go : (b : Bool) → eqb s t ≡ b → (s ≡ t) ⊎ (s ≡ t → ⊥)
@@ -103,101 +107,182 @@ module _ (f : Format) where
   nothing-right s a t b d z = swapped s a t b d ∙ nothing-left t b s a d z
 
   -- ---- a number by itself
-  pub alone-delivered : (r : Outcome) (s w e m : ℕ) → 0 < f .bits → e ≡ exponentOf f w → (e ≡ 0 → ⊥) → m ≡ significandOf f w → 2 ^ (f .bits - 1) ≤ m → m < 2 ^ (f .bits) → r ≡ judged f s (0 + e - 0) m (0 + e - 0) → r ≡ delivered f (units f s (sizeOf f w))
-  alone-delivered r s w e m P he ne hm lo hi hr =
+  pub alone-delivered : (s w e m : ℕ) → 0 < f .bits → e ≡ exponentOf f w → (e ≡ 0 → ⊥) → m ≡ significandOf f w → 2 ^ (f .bits - 1) ≤ m → m < 2 ^ (f .bits) → judged f s e m e ≡ delivered f (units f s (sizeOf f w))
+  alone-delivered s w e m P he ne hm lo hi =
       let u = f .bits + f .excess in
+      let plain : 0 + e - 0 ≡ e = omega arith in
       let z : sizeOf f w ≡ m * 2 ^ e = size-some f w (λ y. ne (he ∙ y)) ∙ ap (λ (y : ℕ). y * 2 ^ exponentOf f w) (sym hm) ∙ ap (λ (y : ℕ). m * 2 ^ y) (sym he) in
-      hr
-      ∙ delivered-at f s (m * 2 ^ e) (2 ^ u) m 1 0 m 0 e 0 P (pow-pos u) (lit< tt) (mul-one (m * 2 ^ e * 2 ^ u)) (itself (f .bits) P m lo hi)
+      ap (λ (x : Rounded). judged f s e (x .sig) (x .exp)) (sym (itself-carried (f .bits) m lo hi e))
+      ∙ ap (λ (y : ℕ). settled f s y m) (sym plain)
+      ∙ delivered-near f s (m * 2 ^ e) (2 ^ u) m 1 0 m e 0 P (pow-pos u) (lit< tt) (mul-one (m * 2 ^ e * 2 ^ u)) (itself-normal (f .bits) m lo hi) (itself-near (f .bits) m lo hi)
       ∙ ap (λ (y : ℕ). delivered f (units f s y)) (sym z)
 
   pub none-delivered : (s w e : ℕ) → e ≡ exponentOf f w → e ≡ 0 → Word 0 ≡ delivered f (units f s (sizeOf f w))
   none-delivered s w e he z = sym (delivered-zero f (units f s (sizeOf f w)) (size-none f w (sym he ∙ z)))
 
--- ---- M * 2 ^ eb, of which the code has the whole part X of M / 2 ^ d in units of 2 ^ -g
-module _ (f : Format) (g : ℕ) where
-  aligned : (r : Outcome) (s M X N d ea eb k m e : ℕ) → 0 < f .bits → eb + d ≡ ea → N ≡ M * 2 ^ eb → X ≡ M * 2 ^ g / 2 ^ d → 2 ^ (f .bits) ≤ X → IsRounded (f .bits) X 1 k m e → r ≡ judged f s (k + ea - g) m (e + ea - g) → r ≡ delivered f (units f s N)
-  aligned r s M X N d ea eb k m e P ee en ex h R hr =
+  -- ---- the smaller taken from the larger, or added to it
+  joint-delivered : (s x t y D : ℕ) → s < 2 → t < 2 → y ≤ x → delivered f (record { sign = s; num = joint ((s + t) % 2) x y; den = D }) ≡ delivered f (together s x t y D)
+  joint-delivered s x t y D hs ht le = go (signs s t) (order x y)
+    where
+      is : (o : ℕ) → (s + t) % 2 ≡ o → delivered f (record { sign = s; num = joint ((s + t) % 2) x y; den = D }) ≡ delivered f (record { sign = s; num = joint o x y; den = D })
+      is o e = ap (λ (z : ℕ). delivered f (record { sign = s; num = joint z x y; den = D })) e
+
+      go : (s ≡ t) ⊎ (s ≡ t → ⊥) → Test x y → delivered f (record { sign = s; num = joint ((s + t) % 2) x y; den = D }) ≡ delivered f (together s x t y D)
+      go (inl e) o = is 0 (omega arith) ∙ ap (delivered f) (sym (together-same s x t y D e))
+      go (inr n) (more h) = is 1 (omega (arith, n)) ∙ ap (delivered f) (sym (together-more s x t y D n h))
+      go (inr n) (less h) = absurd (omega arith)
+      go (inr n) (same e) =
+          let p : x - y ≡ 0 = omega arith in
+          let q : y - x ≡ 0 = omega arith in
+          is 1 (omega (arith, n)) ∙ delivered-zero f (record { sign = s; num = x - y; den = D }) p ∙ sym (delivered-zero f (record { sign = t; num = y - x; den = D }) q) ∙ ap (delivered f) (sym (together-less s x t y D n (le-of-eq e)))
+
+  -- the code's choice of the larger
+  pub chosen-delivered : (s a t b u k l : ℕ) → s < 2 → t < 2 → u ≡ cond (ltb a b) t s → k ≡ cond (ltb a b) b a → l ≡ cond (ltb a b) a b → delivered f (units f u (joint ((s + t) % 2) (sizeAt f k) (sizeAt f l))) ≡ delivered f (together s (sizeAt f a) t (sizeAt f b) (2 ^ (f .bits + f .excess)))
+  chosen-delivered s a t b u k l hs ht hu hk hl =
+      ap (λ (z : ℕ). delivered f (units f z (joint ((s + t) % 2) (sizeAt f k) (sizeAt f l)))) hu
+      ∙ ap (λ (z : ℕ). delivered f (units f (cond (ltb a b) t s) (joint ((s + t) % 2) (sizeAt f z) (sizeAt f l)))) hk
+      ∙ ap (λ (z : ℕ). delivered f (units f (cond (ltb a b) t s) (joint ((s + t) % 2) (sizeAt f (cond (ltb a b) b a)) (sizeAt f z)))) hl
+      ∙ go (ltb a b) (ltb→lt a b) (nltb→le a b)
+    where
+      D : ℕ
+      D = 2 ^ (f .bits + f .excess)
+
+      go : (p : Bool) → (T p → a < b) → (T (not p) → b ≤ a) → delivered f (record { sign = cond p t s; num = joint ((s + t) % 2) (sizeAt f (cond p b a)) (sizeAt f (cond p a b)); den = D }) ≡ delivered f (together s (sizeAt f a) t (sizeAt f b) D)
+      go true h g =
+          ap (λ (z : ℕ). delivered f (record { sign = t; num = joint (z % 2) (sizeAt f b) (sizeAt f a); den = D })) (add-comm s t)
+          ∙ joint-delivered t (sizeAt f b) s (sizeAt f a) D ht hs (at-most f b a (le-of-lt (h tt)) .0)
+          ∙ swapped t (sizeAt f b) s (sizeAt f a) D
+      go false h g = joint-delivered s (sizeAt f a) t (sizeAt f b) D hs ht (at-most f a b (g tt) .0)
+
+-- the larger of two numbers, as the code chooses it
+pub in-order : (a b k l : ℕ) → k ≡ cond (ltb a b) b a → l ≡ cond (ltb a b) a b → l ≤ k
+in-order a b k l hk hl = subst (λ (z : ℕ). l ≤ z) (sym hk) (subst (λ (z : ℕ). z ≤ cond (ltb a b) b a) (sym hl) (go (ltb a b) (ltb→lt a b) (nltb→le a b)))
+  where
+    go : (p : Bool) → (T p → a < b) → (T (not p) → b ≤ a) → cond p a b ≤ cond p b a
+    go true h g = le-of-lt (h tt)
+    go false h g = g tt
+
+module _ (p : Bool) (a b k n : ℕ) (h : k ≡ cond p a b) where
+  pub choice-below : a < n → b < n → k < n
+  choice-below x y = subst (λ (z : ℕ). z < n) (sym h) (go p)
+    where
+      go : (p : Bool) → cond p a b < n
+      go true = x
+      go false = y
+
+  pub choice-above : n ≤ a → n ≤ b → n ≤ k
+  choice-above x y = subst (λ (z : ℕ). n ≤ z) (sym h) (go p)
+    where
+      go : (p : Bool) → n ≤ cond p a b
+      go true = x
+      go false = y
+
+-- ---- the aligned sum or difference of two significands
+joint-factor : (o a b c : ℕ) → joint o (a * c) (b * c) ≡ joint o a b * c
+joint-factor o a b c = go (eqb o 1)
+  where
+    go : (t : Bool) → cond t (a * c - b * c) (a * c + b * c) ≡ cond t (a - b) (a + b) * c
+    go true = sym (sub-mul a b c)
+    go false = sym (add-mul a b c)
+
+module _ (f : Format) (g : ℕ) (o ea a eb b : ℕ) (le : eb ≤ ea) where
+  apart-joint : joint o (a * 2 ^ ea) (b * 2 ^ eb) ≡ joint o (a * 2 ^ (ea - eb)) b * 2 ^ eb
+  apart-joint =
+      let ee : eb + (ea - eb) ≡ ea = omega arith in
+      ap (λ (z : ℕ). joint o z (b * 2 ^ eb)) (apart a ea eb (ea - eb) ee) ∙ joint-factor o (a * 2 ^ (ea - eb)) b (2 ^ eb)
+
+  -- X is the whole part in units of 2 ^ -g of a's last digit
+  pub joint-settled : (s X z K m : ℕ) → 0 < f .bits → X ≡ joint o (a * 2 ^ (ea - eb)) b * 2 ^ g / 2 ^ (ea - eb) → 2 ^ (f .bits) ≤ X → Normal (f .bits) (X * 2 ^ z) 1 K → m ≡ near (X * 2 ^ z) (1 * 2 ^ K) → settled f s (K - z + ea - g) m ≡ delivered f (units f s (joint o (a * 2 ^ ea) (b * 2 ^ eb)))
+  joint-settled s X z K m P ex h N hm =
       let u = f .bits + f .excess in
-      let E : N * 2 ^ u * (2 ^ d * 2 ^ g) ≡ M * 2 ^ g * 2 ^ ea * 2 ^ u =
-      ap (λ (z : ℕ). z * 2 ^ u * (2 ^ d * 2 ^ g)) en ∙ shuffled M eb u d g ∙ ap (λ (z : ℕ). M * 2 ^ g * 2 ^ z * 2 ^ u) ee in
-      hr ∙ delivered-at f s N (2 ^ u) (M * 2 ^ g) (2 ^ d) k m e ea g P (pow-pos u) (pow-pos d) E (of-floor (f .bits) P (M * 2 ^ g) (2 ^ d) X k m e (pow-pos d) ex h R)
+      let d = ea - eb in
+      let M = joint o (a * 2 ^ d) b in
+      let ee : eb + d ≡ ea = omega arith in
+      let E : M * 2 ^ eb * 2 ^ u * (2 ^ d * 2 ^ g) ≡ M * 2 ^ g * 2 ^ ea * 2 ^ u = shuffled M eb u d g ∙ ap (λ (y : ℕ). M * 2 ^ g * 2 ^ y * 2 ^ u) ee in
+      delivered-near f s (M * 2 ^ eb) (2 ^ u) (M * 2 ^ g) (2 ^ d) (K - z) m ea g P (pow-pos u) (pow-pos d) E (floor-normal (f .bits) P (M * 2 ^ g) (2 ^ d) X z K (pow-pos d) ex h N) (hm ∙ floor-near (f .bits) P (M * 2 ^ g) (2 ^ d) X z K (pow-pos d) ex h N)
+      ∙ ap (λ (y : ℕ). delivered f (units f s y)) (sym apart-joint)
     where
       shuffled : (M i u d g : ℕ) → M * 2 ^ i * 2 ^ u * (2 ^ d * 2 ^ g) ≡ M * 2 ^ g * 2 ^ (i + d) * 2 ^ u
       shuffled M i u d g = simp (pow-add, mul-assoc, mul-comm, mul-left-comm)
 
-  pub sum-delivered : (r : Outcome) (s ea a eb b X k m e : ℕ) → 0 < f .bits → eb ≤ ea → X ≡ (a * 2 ^ (ea - eb) + b) * 2 ^ g / 2 ^ (ea - eb) → 2 ^ (f .bits) ≤ X → IsRounded (f .bits) X 1 k m e → r ≡ judged f s (k + ea - g) m (e + ea - g) → r ≡ delivered f (units f s (a * 2 ^ ea + b * 2 ^ eb))
-  sum-delivered r s ea a eb b X k m e P le ex h R hr =
-      let d = ea - eb in
-      let ee : eb + d ≡ ea = omega arith in
-      aligned r s (a * 2 ^ d + b) X (a * 2 ^ ea + b * 2 ^ eb) d ea eb k m e P ee (ap (λ (z : ℕ). z + b * 2 ^ eb) (apart a ea eb d ee) ∙ sym (add-mul (a * 2 ^ d) b (2 ^ eb))) ex h R hr
+  pub joint-none : (s : ℕ) → joint o (a * 2 ^ (ea - eb)) b ≡ 0 → Word 0 ≡ delivered f (units f s (joint o (a * 2 ^ ea) (b * 2 ^ eb)))
+  joint-none s z = sym (delivered-zero f (units f s (joint o (a * 2 ^ ea) (b * 2 ^ eb))) (apart-joint ∙ ap (λ (y : ℕ). y * 2 ^ eb) z ∙ zero-mul (2 ^ eb)))
 
-  pub difference-delivered : (r : Outcome) (s ea a eb b X k m e : ℕ) → 0 < f .bits → eb ≤ ea → X ≡ (a * 2 ^ (ea - eb) - b) * 2 ^ g / 2 ^ (ea - eb) → 2 ^ (f .bits) ≤ X → IsRounded (f .bits) X 1 k m e → r ≡ judged f s (k + ea - g) m (e + ea - g) → r ≡ delivered f (units f s (a * 2 ^ ea - b * 2 ^ eb))
-  difference-delivered r s ea a eb b X k m e P le ex h R hr =
-      let d = ea - eb in
-      let ee : eb + d ≡ ea = omega arith in
-      aligned r s (a * 2 ^ d - b) X (a * 2 ^ ea - b * 2 ^ eb) d ea eb k m e P ee (ap (λ (z : ℕ). z - b * 2 ^ eb) (apart a ea eb d ee) ∙ sym (sub-mul (a * 2 ^ d) b (2 ^ eb))) ex h R hr
+-- ---- what the functions of a sum were told, of magnitudes
+pub ordered-asked : (k l a b : ℕ) → l ≤ k → a ≡ 8388608 + k % 8388608 → b ≡ 8388608 + l % 8388608 → b ≤ a * 2 ^ (k / 8388608 - l / 8388608)
+ordered-asked k l a b hl ha hb = subst (λ (z : ℕ). z ≤ a * 2 ^ (k / 8388608 - l / 8388608)) (sym hb) (subst (λ (z : ℕ). 8388608 + l % 8388608 ≤ z * 2 ^ (k / 8388608 - l / 8388608)) (sym ha) (at-most F k l hl .1))
 
--- ---- what the functions of a sum were told
-module _ (f : Format) (S : Sound f) where
-  strictly : (a b ka kb : ℕ) → magnitude f b ≤ magnitude f a → ka ≡ magnitude f a → kb ≡ magnitude f b → (ka ≡ kb → ⊥) → magnitude f b < magnitude f a
-  strictly a b ka kb le hka hkb nk = let differs : (magnitude f a ≡ magnitude f b → ⊥) = λ e. nk (hka ∙ e ∙ sym hkb) in omega (arith, differs)
+module _ (o k l w a b x : ℕ) (hl : l ≤ k) (hw : w ≡ o) (ha : a ≡ 8388608 + k % 8388608) (hb : b ≡ 8388608 + l % 8388608) (hx : x ≡ joint w (a * 2 ^ (k / 8388608 - l / 8388608)) b * 67108864 / 2 ^ (k / 8388608 - l / 8388608)) where
+  no-higher : l / 8388608 ≤ k / 8388608
+  no-higher = omega arith
 
-  module _ (r : Outcome) (s a t b ea eb ma mb : ℕ) (hea : ea ≡ exponentOf f a) (na : 0 < exponentOf f a) (heb : eb ≡ exponentOf f b) (nb : 0 < exponentOf f b) (hma : ma ≡ significandOf f a) (hmb : mb ≡ significandOf f b) where
-    size-a : ma * 2 ^ ea ≡ sizeOf f a
-    size-a = ap (λ (z : ℕ). z * 2 ^ ea) hma ∙ ap (λ (z : ℕ). significandOf f a * 2 ^ z) hea ∙ sym (size-some f a (λ z. omega arith))
+  here : joint w (a * 2 ^ (k / 8388608)) (b * 2 ^ (l / 8388608)) ≡ joint o (sizeAt F k) (sizeAt F l)
+  here =
+      ap (λ (z : ℕ). joint z (a * 2 ^ (k / 8388608)) (b * 2 ^ (l / 8388608))) hw
+      ∙ ap (λ (z : ℕ). joint o (z * 2 ^ (k / 8388608)) (b * 2 ^ (l / 8388608))) ha
+      ∙ ap (λ (z : ℕ). joint o (sizeAt F k) (z * 2 ^ (l / 8388608))) hb
 
-    size-b : mb * 2 ^ eb ≡ sizeOf f b
-    size-b = ap (λ (z : ℕ). z * 2 ^ eb) hmb ∙ ap (λ (z : ℕ). significandOf f b * 2 ^ z) heb ∙ sym (size-some f b (λ z. omega arith))
+  a-low : 8388608 ≤ a
+  a-low = omega arith
 
-    pub ordered-same : s ≡ t → r ≡ delivered f (units f s (ma * 2 ^ ea + mb * 2 ^ eb)) → r ≡ delivered f (together s (sizeOf f a) t (sizeOf f b) (2 ^ (f .bits + f .excess)))
-    ordered-same e hr =
-        hr
-        ∙ ap (λ (z : ℕ). delivered f (units f s (z + mb * 2 ^ eb))) size-a
-        ∙ ap (λ (z : ℕ). delivered f (units f s (sizeOf f a + z))) size-b
-        ∙ ap (delivered f) (sym (together-same s (sizeOf f a) t (sizeOf f b) (2 ^ (f .bits + f .excess)) e))
+  b-high : b < 16777216
+  b-high = omega arith
 
-    pub ordered-apart : (ka kb : ℕ) → (s ≡ t → ⊥) → magnitude f b ≤ magnitude f a → ka ≡ magnitude f a → kb ≡ magnitude f b → (ka ≡ kb → ⊥) → r ≡ delivered f (units f s (ma * 2 ^ ea - mb * 2 ^ eb)) → r ≡ delivered f (together s (sizeOf f a) t (sizeOf f b) (2 ^ (f .bits + f .excess)))
-    ordered-apart ka kb n le hka hkb nk hr =
-        hr
-        ∙ ap (λ (z : ℕ). delivered f (units f s (z - mb * 2 ^ eb))) size-a
-        ∙ ap (λ (z : ℕ). delivered f (units f s (sizeOf f a - z))) size-b
-        ∙ ap (delivered f) (sym (together-more s (sizeOf f a) t (sizeOf f b) (2 ^ (f .bits + f .excess)) n (larger-size f S a b na nb (strictly a b ka kb le hka hkb nk))))
+  pub ordered-none : (s : ℕ) → x ≡ 0 → Word 0 ≡ delivered F (units F s (joint o (sizeAt F k) (sizeAt F l)))
+  ordered-none s z = joint-none F 26 w (k / 8388608) a (l / 8388608) b no-higher s (none-joint a b (k / 8388608 - l / 8388608) a-low b-high w x hx z) ∙ ap (λ (y : ℕ). delivered F (units F s y)) here
 
-  pub ordered-none : (s a t b ka kb : ℕ) → (s ≡ t → ⊥) → ka ≡ magnitude f a → kb ≡ magnitude f b → ka ≡ kb → Word 0 ≡ delivered f (together s (sizeOf f a) t (sizeOf f b) (2 ^ (f .bits + f .excess)))
-  ordered-none s a t b ka kb n hka hkb e =
-      let z : sizeOf f a ≡ sizeOf f b = same-size f S a b (sym hka ∙ e ∙ hkb) in
-      sym (ap (delivered f) (together-less s (sizeOf f a) t (sizeOf f b) (2 ^ (f .bits + f .excess)) n (le-of-eq z)) ∙ delivered-zero f (record { sign = t; num = sizeOf f b - sizeOf f a; den = 2 ^ (f .bits + f .excess) }) (less-none (sizeOf f a) (sizeOf f b) z))
+  pub ordered-settled : (s z y m : ℕ) → (x ≡ 0 → ⊥) → 9223372036854775808 ≤ x * 2 ^ z → x * 2 ^ z < 18446744073709551616 → y ≡ x * 2 ^ z → m ≡ near y 1099511627776 → settled F s (k / 8388608 + 14 - z) m ≡ delivered F (units F s (joint o (sizeAt F k) (sizeAt F l)))
+  ordered-settled s z y m n lo hi hy hm =
+      let long = some-long a b (k / 8388608 - l / 8388608) a-low b-high w x hx n in
+      let N = normal-64 (x * 2 ^ z) lo hi in
+      let r : z < 40 = room 24 (lit< tt) x 1 x z 40 (lit< tt) (sym (div-one x)) long N in
+      ap (λ (v : ℕ). settled F s v m) (moved (k / 8388608) z r)
+      ∙ joint-settled F 26 w (k / 8388608) a (l / 8388608) b no-higher s x z 40 m (lit< tt) hx long N (hm ∙ ap (λ (v : ℕ). near v 1099511627776) hy)
+      ∙ ap (λ (v : ℕ). delivered F (units F s v)) here
     where
-      less-none : (x y : ℕ) → x ≡ y → y - x ≡ 0
-      less-none x y e = omega arith
+      moved : (e z : ℕ) → z < 40 → e + 14 - z ≡ 40 - z + e - 26
+      moved e z h = omega arith
 
-  pub ordered-asked : (a b ea eb ma mb ka kb : ℕ) → ea ≡ exponentOf f a → eb ≡ exponentOf f b → ma ≡ significandOf f a → mb ≡ significandOf f b → magnitude f b ≤ magnitude f a → ka ≡ magnitude f a → kb ≡ magnitude f b → (ka ≡ kb → ⊥) → mb < ma * 2 ^ (ea - eb)
-  ordered-asked a b ea eb ma mb ka kb hea heb hma hmb le hka hkb nk = simp (hea, heb, hma, hmb) (larger-word f S a b (strictly a b ka kb le hka hkb nk) .1)
+-- ---- and of words
+module _ (f : Format) (S : Sound f) where
+  pub words-combined : (s a t b k l : ℕ) → s ≡ signOf f a → k ≡ magnitude f a → l ≡ magnitude f b → (exponentOf f a ≡ 0 → ⊥) → (exponentOf f b ≡ 0 → ⊥) → delivered f (together s (sizeAt f k) t (sizeAt f l) (2 ^ (f .bits + f .excess))) ≡ combined f a t b
+  words-combined s a t b k l hs hk hl na nb =
+      ap (λ (z : ℕ). delivered f (together z (sizeAt f k) t (sizeAt f l) (2 ^ (f .bits + f .excess)))) hs
+      ∙ ap (λ (z : ℕ). delivered f (together (signOf f a) z t (sizeAt f l) (2 ^ (f .bits + f .excess)))) (sized f S a k hk na)
+      ∙ ap (λ (z : ℕ). delivered f (together (signOf f a) (sizeOf f a) t z (2 ^ (f .bits + f .excess)))) (sized f S b l hl nb)
+      ∙ passed (isReserved f a) (isReserved f b) false false _ (number-free f a na) (number-free f b nb) refl
 
-  pub alone-word : (r : Outcome) (s w e x : ℕ) → e ≡ exponentOf f w → (e ≡ 0 → ⊥) → x ≡ fractionOf f w → r ≡ judged f s (0 + e - 0) (2 ^ (f .bits - 1) + x) (0 + e - 0) → r ≡ delivered f (units f s (sizeOf f w))
-  alone-word r s w e x he ne hx hr =
+  -- one of the two is zero
+  module _ (a t b : ℕ) (p q : Bool) (hp : p ≡ isReserved f a) (hq : q ≡ isReserved f b) (n : (p || q) ≡ false) where
+    pub left-none : (w : ℕ) → exponentOf f a ≡ 0 → Word w ≡ delivered f (units f t (sizeOf f b)) → Word w ≡ combined f a t b
+    left-none w z h = h ∙ sym (nothing-left f (signOf f a) (sizeOf f a) t (sizeOf f b) (2 ^ (f .bits + f .excess)) (size-none f a z)) ∙ passed (isReserved f a) (isReserved f b) p q _ hp hq n
+
+    pub right-none : (w s : ℕ) → exponentOf f b ≡ 0 → s ≡ signOf f a → Word w ≡ delivered f (units f s (sizeOf f a)) → Word w ≡ combined f a t b
+    right-none w s z hs h =
+        h
+        ∙ ap (λ (y : ℕ). delivered f (units f y (sizeOf f a))) hs
+        ∙ sym (nothing-right f (signOf f a) (sizeOf f a) t (sizeOf f b) (2 ^ (f .bits + f .excess)) (size-none f b z))
+        ∙ passed (isReserved f a) (isReserved f b) p q _ hp hq n
+
+  -- the word of a number, from its magnitude
+  alone-word : (r s w : ℕ) → (exponentOf f w ≡ 0 → ⊥) → r ≡ wordOf f s (exponentOf f w) (fractionOf f w) → Word r ≡ delivered f (units f s (sizeOf f w))
+  alone-word r s w n hr =
       let l = fraction-lt f S w in
       let d = double-power (f .bits) (S .first) in
-      alone-delivered f r s w e (2 ^ (f .bits - 1) + x) (S .first) he ne (ap (λ (z : ℕ). 2 ^ (f .bits - 1) + z) hx) (omega arith) (omega arith) hr
+      let g = exponent-lt f S w in
+      let v = S .range in
+      let k : exponentOf f w ≤ f .largest = omega arith in
+      let x : significandOf f w - 2 ^ (f .bits - 1) ≡ fractionOf f w = omega arith in
+      judged-word f s (exponentOf f w) (significandOf f w) (exponentOf f w) r n k (hr ∙ ap (λ (z : ℕ). wordOf f s (exponentOf f w) z) (sym x))
+      ∙ alone-delivered f s w (exponentOf f w) (significandOf f w) (S .first) refl n refl (omega arith) (omega arith)
 
-  module _ (r : Outcome) (s a t b e : ℕ) where
-    pub with-left-none : e ≡ exponentOf f a → e ≡ 0 → r ≡ delivered f (units f t (sizeOf f b)) → r ≡ delivered f (together s (sizeOf f a) t (sizeOf f b) (2 ^ (f .bits + f .excess)))
-    with-left-none he z hr = hr ∙ sym (nothing-left f s (sizeOf f a) t (sizeOf f b) (2 ^ (f .bits + f .excess)) (size-none f a (sym he ∙ z)))
+  module _ (a b t : ℕ) where
+    pub combined-sum : t ≡ signOf f b → combined f a t b ≡ sum f a b
+    combined-sum ht = ap (λ (z : Outcome). cond (isReserved f a) Reserved (cond (isReserved f b) Reserved z)) (ap (λ (y : ℕ). delivered f (together (signOf f a) (sizeOf f a) y (sizeOf f b) (2 ^ (f .bits + f .excess)))) ht ∙ sym (scaled-sum f (signOf f a) (sizeOf f a) (signOf f b) (sizeOf f b) (2 ^ (f .bits + f .excess)) (pow-pos (f .bits + f .excess))))
 
-    pub with-right-none : e ≡ exponentOf f b → e ≡ 0 → s ≡ signOf f a → r ≡ delivered f (units f s (sizeOf f a)) → r ≡ delivered f (together (signOf f a) (sizeOf f a) t (sizeOf f b) (2 ^ (f .bits + f .excess)))
-    with-right-none he z hs hr = hr ∙ sym (nothing-right f s (sizeOf f a) t (sizeOf f b) (2 ^ (f .bits + f .excess)) (size-none f b (sym he ∙ z))) ∙ ap (λ (y : ℕ). delivered f (together y (sizeOf f a) t (sizeOf f b) (2 ^ (f .bits + f .excess)))) hs
+    pub combined-difference : t ≡ signOf f b → combined f a (1 - t) b ≡ difference f a b
+    combined-difference ht = ap (λ (z : Outcome). cond (isReserved f a) Reserved (cond (isReserved f b) Reserved z)) (ap (λ (y : ℕ). delivered f (together (signOf f a) (sizeOf f a) (1 - y) (sizeOf f b) (2 ^ (f .bits + f .excess)))) ht ∙ sym (scaled-sum f (signOf f a) (sizeOf f a) (1 - signOf f b) (sizeOf f b) (2 ^ (f .bits + f .excess)) (pow-pos (f .bits + f .excess))))
 
-  module _ (r : Outcome) (s a t b : ℕ) (hs : s ≡ signOf f a) where
-    pub in-order : r ≡ delivered f (together s (sizeOf f a) t (sizeOf f b) (2 ^ (f .bits + f .excess))) → r ≡ delivered f (together (signOf f a) (sizeOf f a) t (sizeOf f b) (2 ^ (f .bits + f .excess)))
-    in-order hr = hr ∙ ap (λ (y : ℕ). delivered f (together y (sizeOf f a) t (sizeOf f b) (2 ^ (f .bits + f .excess)))) hs
-
-    pub out-of-order : r ≡ delivered f (together t (sizeOf f b) s (sizeOf f a) (2 ^ (f .bits + f .excess))) → r ≡ delivered f (together (signOf f a) (sizeOf f a) t (sizeOf f b) (2 ^ (f .bits + f .excess)))
-    out-of-order hr = in-order (hr ∙ swapped f t (sizeOf f b) s (sizeOf f a) (2 ^ (f .bits + f .excess)))
-
-  module _ (r : Outcome) (a b t : ℕ) (ht : t ≡ signOf f b) where
-    pub plus-delivered : r ≡ delivered f (together (signOf f a) (sizeOf f a) t (sizeOf f b) (2 ^ (f .bits + f .excess))) → r ≡ delivered f (plus (valueOf f a) (valueOf f b))
-    plus-delivered hr = hr ∙ ap (λ (y : ℕ). delivered f (together (signOf f a) (sizeOf f a) y (sizeOf f b) (2 ^ (f .bits + f .excess)))) ht ∙ sym (scaled-sum f (signOf f a) (sizeOf f a) (signOf f b) (sizeOf f b) (2 ^ (f .bits + f .excess)) (pow-pos (f .bits + f .excess)))
-
-    pub minus-delivered : r ≡ delivered f (together (signOf f a) (sizeOf f a) (1 - t) (sizeOf f b) (2 ^ (f .bits + f .excess))) → r ≡ delivered f (minus (valueOf f a) (valueOf f b))
-    minus-delivered hr = hr ∙ ap (λ (y : ℕ). delivered f (together (signOf f a) (sizeOf f a) (1 - y) (sizeOf f b) (2 ^ (f .bits + f .excess)))) ht ∙ sym (scaled-sum f (signOf f a) (sizeOf f a) (1 - signOf f b) (sizeOf f b) (2 ^ (f .bits + f .excess)) (pow-pos (f .bits + f .excess)))
+-- as the code makes it
+pub alone-made : (r s w e k : ℕ) → s < 2 → e ≡ exponentOf F w → (e ≡ 0 → ⊥) → k ≡ magnitude F w → r ≡ turned (s * 2147483648 + k) → Word r ≡ delivered F (units F s (sizeOf F w))
+alone-made r s w e k hs he n hk hr = alone-word F F-sound r s w (λ z. n (he ∙ z)) (magnitude-word s w k r hs hk hr)

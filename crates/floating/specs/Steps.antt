@@ -5,13 +5,44 @@ use mathlib.Core.Bool.{cond}
 use lib.Dec.{eqb, ltb}
 use lib.Ieee.{Float, binary64, toBits}
 use lib.Ieee.Exact.{HasValue}
-use Rattle.floating.specs.Format.{Format, signOf, exponentOf, fractionOf, significandOf}
-use Rattle.floating.specs.Round.{places, rounded}
+use Rattle.floating.specs.declared.Outcome.{Outcome}
+use Rattle.floating.specs.declared.Outcome.the-variants.{Reserved}
+use Rattle.floating.specs.Format.{Format, signOf, exponentOf, fractionOf, significandOf, isReserved}
+use Rattle.floating.specs.Exact.{sizeOf, together}
+use Rattle.floating.specs.Round.{carried}
+use Rattle.floating.specs.Delivered.{judged, delivered}
 use Rattle.floating.specs.Reading.{doubleBits}
+
+-- the halves of 32 bits exchanged
+abbrev pub turned : ℕ → ℕ
+turned w = w % 65536 * 65536 + w / 65536
 
 -- the exponent with the fraction below it: of two numbers that with the larger magnitude is the larger, up to their signs
 abbrev pub magnitude : Format → ℕ → ℕ
 magnitude f w = exponentOf f w * 2 ^ (f .bits - 1) + fractionOf f w
+
+-- the size of a number with the magnitude k
+abbrev pub sizeAt : Format → ℕ → ℕ
+sizeAt f k = (2 ^ (f .bits - 1) + k % 2 ^ (f .bits - 1)) * 2 ^ (k / 2 ^ (f .bits - 1))
+
+-- the magnitude of a number with the exponent field e before rounding and the rounded significand m, whose first digit adds one to the field
+abbrev pub packed : Format → ℕ → ℕ → ℕ
+packed f e m = (e - 1) * 2 ^ (f .bits - 1) + m
+
+-- what is delivered of such a number
+abbrev pub settled : Format → ℕ → ℕ → ℕ → Outcome
+settled f s e m = judged f s e (carried (f .bits) m e .sig) (carried (f .bits) m e .exp)
+
+-- a + b, or with o 1 a - b
+abbrev pub joint : ℕ → ℕ → ℕ → ℕ
+joint o a b = cond (eqb o 1) (a - b) (a + b)
+
+-- what a, and b with the sign t, give together
+abbrev pub combined : Format → ℕ → ℕ → ℕ → Outcome
+combined f a t b =
+    cond (isReserved f a) Reserved
+    (cond (isReserved f b) Reserved
+    (delivered f (together (signOf f a) (sizeOf f a) t (sizeOf f b) (2 ^ (f .bits + f .excess)))))
 
 -- num / den has p digits in its whole part at least
 abbrev pub Enough : ℕ → ℕ → ℕ → Type 0
@@ -21,17 +52,6 @@ Enough p num den = den * 2 ^ (p - 1) ≤ num
 pub record Normal (p num den k : ℕ) : Type 0 where
   pub low : den * 2 ^ k * 2 ^ (p - 1) ≤ num
   pub high : num < den * 2 ^ k * 2 ^ p
-
--- num / den rounded to p digits: the exponent before rounding, the significand, and the exponent after
-pub record IsRounded (p num den before sig after : ℕ) : Type 0 where
-  pub is-before : before ≡ places p num den
-  pub is-sig : sig ≡ rounded p num den .sig
-  pub is-after : after ≡ rounded p num den .exp
-  pub normal : Normal p num den before
-  pub low : 2 ^ (p - 1) ≤ sig
-  pub high : sig < 2 ^ p
-  pub least : before ≤ after
-  pub most : after ≤ before + 1
 
 -- made whole: with halves 1 the nearest number, a half up, and with halves 0 the number towards zero
 abbrev pub wholeBy : ℕ → ℕ → ℕ → ℕ
@@ -46,6 +66,10 @@ pub record StandsFor (x n : ℕ) : Type 0 where
 -- the magnitude, and 0 for zero: the order of the sizes
 abbrev pub rank : Format → ℕ → ℕ
 rank f w = cond (eqb (exponentOf f w) 0) 0 (magnitude f w)
+
+-- the word turned, and 0 for zero: the sign, and the rank below it
+abbrev pub level : Format → ℕ → ℕ
+level f w = cond (eqb (exponentOf f w) 0) 0 (turned w)
 
 -- the binary64 number r is the number of the word w, not zero
 pub record Reads (f : Format) (w : ℕ) (r : Float) : Type 0 where

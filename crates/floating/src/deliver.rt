@@ -1,28 +1,48 @@
 // The word of a rounded number, or that the format has none.
-use crate::Outcome;
-use crate::round::Rounding;
+use crate::Answer;
+use crate::word;
 ghost use mathlib.Core.Path.{_≡_};
-ghost use Prim.Native.Nat.{_+_, _-_, _<_, _≤_};
-ghost use Rattle.floating.specs.Format.{F, wordOf};
-ghost use Rattle.floating.specs.Delivered.{judged};
+ghost use Prim.Native.Nat.{_+_, _-_, _*_, _<_, _≤_};
+ghost use Rattle.floating.specs.Format.{F};
+ghost use Rattle.floating.specs.Operations.{answered};
+ghost use Rattle.floating.specs.Steps.{turned, packed, settled};
 
-pub fn word_of(s: u32, e: u32, fraction: u32) -> u32
-    requires { ⌜ (s < 2) × (e < 256) × (fraction < 8388608) ⌝ }
-    ensures { λ r. ⌜ r ≡ wordOf F s e fraction ⌝ }
+// The exponent field e and the fraction of a rounded significand m. The first digit of m adds one to the field, and so does a carry.
+pub fn packed_of(e: u32, m: u32) -> u32
+    requires { ⌜ (0 < e) × (e < 500) × (m ≤ 16777216) ⌝ }
+    ensures { λ r. ⌜ r ≡ packed F e m ⌝ }
 {
-    s * 32768 + e * 128 + fraction / 65536 + fraction % 65536 * 65536
+    (e - 1) * 8388608 + m
 }
 
-// The exponent field is x's exponent, up places higher and down places lower.
-pub fn deliver(s: u32, up: u32, down: u32, x: Rounding) -> Outcome
-    requires { ⌜ (s < 2) × (up < 1000) × (down < 1000) × (x .before < 1000) × (x .before ≤ x .after) × (x .after < 1000) × (8388608 ≤ x .sig) × (x .sig < 16777216) ⌝ }
-    ensures { λ r. ⌜ r ≡ judged F s (x .before + up - down) (x .sig) (x .after + up - down) ⌝ }
+pub fn word_of(s: u32, magnitude: u32) -> u32
+    requires { ⌜ (s < 2) × (magnitude < 2147483648) ⌝ }
+    ensures { λ r. ⌜ r ≡ turned (s * 2147483648 + magnitude) ⌝ }
 {
-    if x.before + up <= down {
-        return Outcome::Underflow;
+    word::turned(s * 2147483648 + magnitude)
+}
+
+// The one place where the range is judged: the exponent field is e less down before rounding, and m is the rounded significand.
+pub fn deliver(exc: bool, s: u32, e: u32, down: u32, m: u32) -> Answer
+    requires { ⌜ (s < 2) × (e < down + 500) × (down < 1000) × (8388608 ≤ m) × (m ≤ 16777216) ⌝ }
+    ensures { λ r. ⌜ r ≡ answered exc (settled F s (e - down) m) ⌝ }
+{
+    if e <= down {
+        return Answer {
+            value: word::chosen(exc, 0x8001, 0),
+            types: word::chosen(exc, 1, 0),
+        };
     }
-    if down + 255 < x.after + up {
-        return Outcome::Overflow;
+    let field = e - down;
+    let magnitude = packed_of(field, m);
+    if 2147483647 < magnitude {
+        return Answer {
+            value: 0x8008,
+            types: 8,
+        };
     }
-    Outcome::Word(word_of(s, x.after + up - down, x.sig - 8388608))
+    Answer {
+        value: word_of(s, magnitude),
+        types: 0,
+    }
 }

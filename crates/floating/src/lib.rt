@@ -40,72 +40,72 @@ pub enum Reading {
     Reserved(u8),
 }
 
-fn answer_of(exc: bool, x: Outcome) -> Answer
-    ensures { λ r. ⌜ r ≡ answered exc x ⌝ }
-{
-    match x {
-        Outcome::Word(w) => Answer { value: w, types: 0 },
-        Outcome::Overflow => Answer {
-            value: 0x8008,
-            types: 8,
-        },
-        Outcome::Underflow => {
-            if exc {
-                Answer {
-                    value: 0x8001,
-                    types: 1,
-                }
-            } else {
-                Answer { value: 0, types: 0 }
-            }
-        }
-        Outcome::Reserved => Answer {
-            value: 0x8004,
-            types: 4,
-        },
-    }
-}
+// An answer is handed on by its parts, which the compiler then keeps apart.
 
 // a plus b
 pub fn add(a: u32, b: u32, exc: bool) -> Answer
     ensures { λ r. ⌜ r ≡ answered exc (sum F a b) ⌝ }
 {
-    answer_of(exc, sum::of_words(a, b))
+    let r = sum::of_words(exc, a, word::sign_of(b), b);
+    Answer {
+        value: r.value,
+        types: r.types,
+    }
 }
 
 // a minus b
 pub fn subtract(a: u32, b: u32, exc: bool) -> Answer
     ensures { λ r. ⌜ r ≡ answered exc (difference F a b) ⌝ }
 {
-    answer_of(exc, sum::difference_of_words(a, b))
+    let r = sum::of_words(exc, a, 1 - word::sign_of(b), b);
+    Answer {
+        value: r.value,
+        types: r.types,
+    }
 }
 
 // a times b
 pub fn multiply(a: u32, b: u32, exc: bool) -> Answer
     ensures { λ r. ⌜ r ≡ answered exc (product F a b) ⌝ }
 {
-    answer_of(exc, product::of_words(a, b))
+    let r = product::of_words(exc, a, b);
+    Answer {
+        value: r.value,
+        types: r.types,
+    }
 }
 
 // Whether a stands in the relation <2:0> to b.
 pub fn compare(relation: u32, a: u32, b: u32) -> Compared
     ensures { λ r. ⌜ r ≡ compared F relation a b ⌝ }
 {
-    order::compare_words(relation, a, b)
+    let r = order::compare_words(relation, a, b);
+    Compared {
+        bit: r.bit,
+        types: r.types,
+    }
 }
 
 // Conversion 5, F to longword rounded.
 pub fn rounded_longword(word: u32, exc: bool) -> Answer
     ensures { λ r. ⌜ r ≡ roundedLongword F exc word ⌝ }
 {
-    convert::to_longword(word, 1, exc)
+    let r = convert::to_longword(word, 1, exc);
+    Answer {
+        value: r.value,
+        types: r.types,
+    }
 }
 
 // Conversion 4, F to longword truncated.
 pub fn truncated_longword(word: u32, exc: bool) -> Answer
     ensures { λ r. ⌜ r ≡ truncatedLongword F exc word ⌝ }
 {
-    convert::to_longword(word, 0, exc)
+    let r = convert::to_longword(word, 0, exc);
+    Answer {
+        value: r.value,
+        types: r.types,
+    }
 }
 
 // Conversion 1, longword to F. There is always a word, and nothing is recorded.

@@ -1,14 +1,13 @@
 // The product of two words.
-use crate::Outcome;
+use crate::Answer;
 use crate::deliver;
 use crate::round;
 use crate::word;
 ghost use mathlib.Core.Path.{_≡_};
-ghost use Prim.Native.Nat.{_*_, _<_, _≤_};
-ghost use Rattle.floating.specs.Format.{F};
-ghost use Rattle.floating.specs.Exact.{valueOf, times};
-ghost use Rattle.floating.specs.Delivered.{delivered};
-ghost use Rattle.floating.specs.Operations.{product};
+ghost use mathlib.Core.Bool.{Bool};
+ghost use Prim.Native.Nat.{_+_, _*_, _%_, _<_, _≤_};
+ghost use Rattle.floating.specs.Format.{F, signOf, exponentOf};
+ghost use Rattle.floating.specs.Operations.{answered, product};
 
 // The product of two significands, 24 bits by 24.
 fn whole_product(a: u64, b: u64) -> u64
@@ -18,31 +17,48 @@ fn whole_product(a: u64, b: u64) -> u64
     a * b
 }
 
-// Neither word is reserved.
-fn multiply_numbers(a: u32, b: u32) -> Outcome
-    ensures { λ r. ⌜ r ≡ delivered F (times (valueOf F a) (valueOf F b)) ⌝ }
+fn sign_of_product(a: u32, b: u32) -> u32
+    ensures { λ r. ⌜ (r ≡ (signOf F a + signOf F b) % 2) × (r < 2) ⌝ }
 {
-    let ea = word::exponent_of(a);
-    if ea == 0 {
-        return Outcome::Word(0);
-    }
-    let eb = word::exponent_of(b);
-    if eb == 0 {
-        return Outcome::Word(0);
-    }
-    let s = (word::sign_of(a) + word::sign_of(b)) % 2;
-    let x = round::round_product(whole_product(word::significand_of(a), word::significand_of(b)));
-    deliver::deliver(s, ea + eb, 152, x)
+    word::chosen(word::sign_of(a) == word::sign_of(b), 0, 1)
 }
 
-pub fn of_words(a: u32, b: u32) -> Outcome
-    ensures { λ r. ⌜ r ≡ product F a b ⌝ }
+// One of the two is zero or reserved.
+fn multiply_rare(a: u32, b: u32) -> Answer
+    requires { ⌜ ((exponentOf F a ≡ 0 → ⊥) → exponentOf F b ≡ 0) ⌝ }
+    ensures { λ r. ⌜ ((exc : Bool) → r ≡ answered exc (product F a b)) ⌝ }
 {
-    if word::is_reserved(a) {
-        return Outcome::Reserved;
+    let reserved = word::is_reserved(a) | word::is_reserved(b);
+    Answer {
+        value: word::chosen(reserved, 0x8004, 0),
+        types: word::chosen(reserved, 4, 0),
     }
-    if word::is_reserved(b) {
-        return Outcome::Reserved;
+}
+
+pub fn of_words(exc: bool, a: u32, b: u32) -> Answer
+    ensures { λ r. ⌜ r ≡ answered exc (product F a b) ⌝ }
+{
+    let ea = word::exponent_of(a);
+    let eb = word::exponent_of(b);
+    if (ea == 0) | (eb == 0) {
+        let r = multiply_rare(a, b);
+        return Answer {
+            value: r.value,
+            types: r.types,
+        };
     }
-    multiply_numbers(a, b)
+    let s = sign_of_product(a, b);
+    let x = whole_product(word::significand_of(a), word::significand_of(b));
+    let z = round::zeros_of(x);
+    let r = deliver::deliver(
+        exc,
+        s,
+        ea + eb,
+        112 + z,
+        round::near_of(round::raised(x, z)),
+    );
+    Answer {
+        value: r.value,
+        types: r.types,
+    }
 }

@@ -1,132 +1,105 @@
 // The sum and the difference of two words.
-use crate::Outcome;
+use crate::Answer;
 use crate::deliver;
 use crate::round;
-use crate::round::Rounding;
 use crate::word;
 ghost use mathlib.Core.Path.{_≡_};
+ghost use mathlib.Core.Bool.{Bool};
 ghost use Prim.Native.Nat.{_+_, _-_, _*_, _/_, _^_, _<_, _≤_};
-ghost use Rattle.floating.specs.Format.{F, signOf, exponentOf};
+ghost use Rattle.floating.specs.declared.Outcome.the-variants.{Word};
+ghost use Rattle.floating.specs.Format.{F, exponentOf};
 ghost use Rattle.floating.specs.Exact.{units, sizeOf, together};
 ghost use Rattle.floating.specs.Delivered.{delivered};
-ghost use Rattle.floating.specs.Operations.{sum, difference};
-ghost use Rattle.floating.specs.Steps.{magnitude};
+ghost use Rattle.floating.specs.Operations.{answered};
+ghost use Rattle.floating.specs.Steps.{sizeAt, joint, combined};
 
-// x / 2 ^ d, at any d
-fn cut_down(x: u64, d: u32) -> u64
-    requires { ⌜ x < 1125899906842624 ⌝ }
-    ensures { λ r. ⌜ r ≡ x / 2 ^ d ⌝ }
+// The whole part of a + b, or with o 1 of a - b, in units of 2 ^ -26 of a's last digit: it has more than 24 digits or is 0, so that it alone decides the rounding. What is cut off of b leaves one unit less of a difference.
+fn aligned(o: u64, a: u64, b: u64, d: u32) -> u64
+    requires { ⌜ (o < 2) × (8388608 ≤ a) × (a < 16777216) × (8388608 ≤ b) × (b < 16777216) × (b ≤ a * 2 ^ d) ⌝ }
+    ensures { λ r. ⌜ r ≡ joint o (a * 2 ^ d) b * 67108864 / 2 ^ d ⌝ }
 {
-    if d < 50 { round::shifted(x, d) } else { 0 }
-}
-
-// The whole part of a sum in units of 2 ^ -26 of a's last digit: more than 24 digits, so that it alone decides the rounding.
-fn aligned_sum(a: u64, b: u64, d: u32) -> u64
-    requires { ⌜ (8388608 ≤ a) × (a < 16777216) × (8388608 ≤ b) × (b < 16777216) ⌝ }
-    ensures { λ r. ⌜ (r ≡ (a * 2 ^ d + b) * 67108864 / 2 ^ d) × (16777216 ≤ r) × (r < 4611686018427387904) ⌝ }
-{
-    a * 67108864 + cut_down(b * 67108864, d)
-}
-
-// The same of a difference: what is cut off of b leaves one unit less.
-fn aligned_difference(a: u64, b: u64, d: u32) -> u64
-    requires { ⌜ (8388608 ≤ a) × (a < 16777216) × (8388608 ≤ b) × (b < 16777216) × (b < a * 2 ^ d) ⌝ }
-    ensures { λ r. ⌜ (r ≡ (a * 2 ^ d - b) * 67108864 / 2 ^ d) × (16777216 ≤ r) × (r < 4611686018427387904) ⌝ }
-{
-    a * 67108864 - 1 - cut_down(b * 67108864 - 1, d)
-}
-
-// The sum of two sizes, the first with the larger exponent.
-fn add_sizes(s: u32, ea: u32, a: u64, eb: u32, b: u64) -> Outcome
-    requires { ⌜ (s < 2) × (eb ≤ ea) × (ea < 256) × (8388608 ≤ a) × (a < 16777216) × (8388608 ≤ b) × (b < 16777216) ⌝ }
-    ensures { λ r. ⌜ r ≡ delivered F (units F s (a * 2 ^ ea + b * 2 ^ eb)) ⌝ }
-{
-    let x = round::round_whole(aligned_sum(a, b, ea - eb));
-    deliver::deliver(s, ea, 26, x)
-}
-
-// The difference of two sizes, the first the larger.
-fn subtract_sizes(s: u32, ea: u32, a: u64, eb: u32, b: u64) -> Outcome
-    requires { ⌜ (s < 2) × (eb ≤ ea) × (ea < 256) × (8388608 ≤ a) × (a < 16777216) × (8388608 ≤ b) × (b < 16777216) × (b < a * 2 ^ (ea - eb)) ⌝ }
-    ensures { λ r. ⌜ r ≡ delivered F (units F s (a * 2 ^ ea - b * 2 ^ eb)) ⌝ }
-{
-    let x = round::round_whole(aligned_difference(a, b, ea - eb));
-    deliver::deliver(s, ea, 26, x)
-}
-
-// a with the sign s and b with the sign t, a no smaller than b.
-fn add_ordered(s: u32, a: u32, t: u32, b: u32) -> Outcome
-    requires { ⌜ (s < 2) × (0 < exponentOf F a) × (0 < exponentOf F b) × (magnitude F b ≤ magnitude F a) ⌝ }
-    ensures { λ r. ⌜ r ≡ delivered F (together s (sizeOf F a) t (sizeOf F b) (2 ^ 152)) ⌝ }
-{
-    let ea = word::exponent_of(a);
-    let eb = word::exponent_of(b);
-    let ma = word::significand_of(a);
-    let mb = word::significand_of(b);
-    if s == t {
-        return add_sizes(s, ea, ma, eb, mb);
+    let c = o + round::cut_down(b * 67108864 - o, d);
+    if o == 1 {
+        a * 67108864 - c
+    } else {
+        a * 67108864 + c
     }
-    if word::magnitude_of(a) == word::magnitude_of(b) {
-        return Outcome::Word(0); // and no minus zero
-    }
-    subtract_sizes(s, ea, ma, eb, mb)
 }
 
-// The number of a word, with the sign s.
-fn alone(s: u32, word: u32) -> Outcome
+// Two numbers with the magnitudes k and l, k no smaller: the sum, or with o 1 the difference, with the sign s.
+fn add_ordered(exc: bool, s: u32, o: u32, k: u32, l: u32) -> Answer
+    requires { ⌜ (s < 2) × (o < 2) × (8388608 ≤ l) × (l ≤ k) × (k < 2147483648) ⌝ }
+    ensures { λ r. ⌜ r ≡ answered exc (delivered F (units F s (joint o (sizeAt F k) (sizeAt F l)))) ⌝ }
+{
+    let e = k / 8388608;
+    let a = word::wide(8388608 + k % 8388608);
+    let b = word::wide(8388608 + l % 8388608);
+    let x = aligned(word::wide(o), a, b, e - l / 8388608);
+    if x == 0 {
+        return Answer { value: 0, types: 0 }; // and no minus zero
+    }
+    let z = round::zeros_of(x);
+    deliver::deliver(exc, s, e + 14, z, round::near_of(round::raised(x, z)))
+}
+
+// Two numbers with the signs s and t and the magnitudes a and b.
+fn add_sizes(exc: bool, s: u32, a: u32, t: u32, b: u32) -> Answer
+    requires { ⌜ (s < 2) × (t < 2) × (8388608 ≤ a) × (a < 2147483648) × (8388608 ≤ b) × (b < 2147483648) ⌝ }
+    ensures { λ r. ⌜ r ≡ answered exc (delivered F (together s (sizeAt F a) t (sizeAt F b) (2 ^ 152))) ⌝ }
+{
+    let less = a < b;
+    let k = word::chosen(less, b, a);
+    let l = word::chosen(less, a, b);
+    add_ordered(exc, word::chosen(less, t, s), (s + t) % 2, k, l)
+}
+
+// The word of a number, with the sign s.
+fn alone(s: u32, word: u32) -> u32
     requires { ⌜ s < 2 ⌝ }
-    ensures { λ r. ⌜ r ≡ delivered F (units F s (sizeOf F word)) ⌝ }
+    ensures { λ r. ⌜ Word r ≡ delivered F (units F s (sizeOf F word)) ⌝ }
 {
-    let e = word::exponent_of(word);
-    if e == 0 {
-        return Outcome::Word(0);
+    if word::exponent_of(word) == 0 {
+        return 0;
     }
-    let x = Rounding {
-        before: 0,
-        sig: 8388608 + word::fraction_of(word),
-        after: 0,
-    };
-    deliver::deliver(s, e, 0, x)
+    deliver::word_of(s, word::magnitude_of(word))
 }
 
-// a, and b with the sign t; neither is reserved.
-fn add_numbers(a: u32, t: u32, b: u32) -> Outcome
-    requires { ⌜ t < 2 ⌝ }
-    ensures { λ r. ⌜ r ≡ delivered F (together (signOf F a) (sizeOf F a) t (sizeOf F b) (2 ^ 152)) ⌝ }
+// a, and b with the sign t, where one of them is zero or reserved.
+fn add_rare(a: u32, t: u32, b: u32) -> Answer
+    requires { ⌜ (t < 2) × ((exponentOf F a ≡ 0 → ⊥) → exponentOf F b ≡ 0) ⌝ }
+    ensures { λ r. ⌜ ((exc : Bool) → r ≡ answered exc (combined F a t b)) ⌝ }
 {
-    let s = word::sign_of(a);
+    if word::is_reserved(a) | word::is_reserved(b) {
+        return Answer {
+            value: 0x8004,
+            types: 4,
+        };
+    }
     if word::exponent_of(a) == 0 {
-        return alone(t, b);
+        return Answer {
+            value: alone(t, b),
+            types: 0,
+        };
     }
-    if word::exponent_of(b) == 0 {
-        return alone(s, a);
+    Answer {
+        value: alone(word::sign_of(a), a),
+        types: 0,
     }
-    if word::magnitude_of(a) < word::magnitude_of(b) {
-        return add_ordered(t, b, s, a);
-    }
-    add_ordered(s, a, t, b)
 }
 
-pub fn of_words(a: u32, b: u32) -> Outcome
-    ensures { λ r. ⌜ r ≡ sum F a b ⌝ }
+// a, and b with the sign t.
+pub fn of_words(exc: bool, a: u32, t: u32, b: u32) -> Answer
+    requires { ⌜ t < 2 ⌝ }
+    ensures { λ r. ⌜ r ≡ answered exc (combined F a t b) ⌝ }
 {
-    if word::is_reserved(a) {
-        return Outcome::Reserved;
+    if (word::exponent_of(a) == 0) | (word::exponent_of(b) == 0) {
+        return add_rare(a, t, b);
     }
-    if word::is_reserved(b) {
-        return Outcome::Reserved;
-    }
-    add_numbers(a, word::sign_of(b), b)
-}
-
-pub fn difference_of_words(a: u32, b: u32) -> Outcome
-    ensures { λ r. ⌜ r ≡ difference F a b ⌝ }
-{
-    if word::is_reserved(a) {
-        return Outcome::Reserved;
-    }
-    if word::is_reserved(b) {
-        return Outcome::Reserved;
-    }
-    add_numbers(a, 1 - word::sign_of(b), b)
+    add_sizes(
+        exc,
+        word::sign_of(a),
+        word::magnitude_of(a),
+        t,
+        word::magnitude_of(b),
+    )
 }

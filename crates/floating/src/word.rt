@@ -1,12 +1,27 @@
 // The fields of a word.
 ghost use mathlib.Core.Path.{_≡_};
+ghost use mathlib.Core.Bool.{cond};
 ghost use Rattle.floating.specs.Format.{F, signOf, exponentOf, fractionOf, significandOf, isReserved};
-ghost use Rattle.floating.specs.Steps.{magnitude, rank};
+ghost use Rattle.floating.specs.Steps.{turned as turnedWord, magnitude};
 
 pub fn wide(x: u32) -> u64
     ensures { λ r. ⌜ r ≡ x ⌝ }
 {
     x as u64
+}
+
+// Both are worked out before one is chosen, so that nothing has to be foretold.
+pub fn chosen(first: bool, x: u32, y: u32) -> u32
+    ensures { λ r. ⌜ r ≡ cond first x y ⌝ }
+{
+    if first { x } else { y }
+}
+
+// The halves exchanged: the sign, the exponent below it, and the whole fraction below that.
+pub fn turned(word: u32) -> u32
+    ensures { λ r. ⌜ r ≡ turnedWord word ⌝ }
+{
+    word % 65536 * 65536 + word / 65536
 }
 
 pub fn sign_of(word: u32) -> u32
@@ -42,14 +57,5 @@ pub fn is_reserved(word: u32) -> bool
 pub fn magnitude_of(word: u32) -> u32
     ensures { λ r. ⌜ r ≡ magnitude F word ⌝ }
 {
-    exponent_of(word) * 8388608 + fraction_of(word)
-}
-
-pub fn rank_of(word: u32) -> u32
-    ensures { λ r. ⌜ r ≡ rank F word ⌝ }
-{
-    if exponent_of(word) == 0 {
-        return 0;
-    }
-    magnitude_of(word)
+    word % 32768 * 65536 + word / 65536
 }

@@ -1,6 +1,6 @@
 -- `floating::truncated_longword` meets its contract. Assumes nothing.
-use Rattle.floating.proofs.Converting.{by-none}
 use mathlib.Core.Path.{_∙_}
+use Rattle.floating.proofs.Converting.{by-none}
 use borrow.Author.Needs.{needs}
 use Rattle.floating.proofs.truncated_longword.Statement.{statement}
 use Rattle.floating.proofs.truncated_longword.Tie as tie

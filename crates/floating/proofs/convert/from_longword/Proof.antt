@@ -1,5 +1,5 @@
 -- `floating::convert::from_longword` meets its contract. Assumes nothing.
-use Rattle.floating.proofs.Converting.{longword-none, longword-plus, longword-minus}
+use Rattle.floating.proofs.Converting.{longword-none, longword-some, size-in}
 use borrow.Author.Needs.{needs}
 use Rattle.floating.proofs.convert.from_longword.Statement.{statement}
 use Rattle.floating.proofs.convert.from_longword.Tie as tie
@@ -10,33 +10,18 @@ returns c = search (longword-none, needs)
 wide-requires : tie.Need-wide-requires
 wide-requires c κs = search needs
 
+size-of-requires : tie.Need-size-of-requires
+size-of-requires c κs = search needs
+
 word-of-size-requires : tie.Need-word-of-size-requires
-word-of-size-requires c κs = search needs
+word-of-size-requires c κs =
+    let l = c .before .before .before .args .l in
+    let n = size-in l (c .before .wide .result) (c .size-of .result) (search needs) (c .before .before .if1 .left) (c .before .wide .ensures) (c .size-of .ensures) in
+    (search needs, n .0, n .1)
 
 returns-2 : tie.Need-returns-2
-returns-2 c = search (longword-plus, needs)
-
-wide-requires-2 : tie.Need-wide-requires-2
-wide-requires-2 c κs = search needs
-
-sub-word-of-size : tie.Need-sub-word-of-size
-sub-word-of-size c = search needs
-
-word-of-size-requires-2 : tie.Need-word-of-size-requires-2
-word-of-size-requires-2 c κs = search needs
-
-returns-3 : tie.Need-returns-3
-returns-3 c = search (longword-minus, needs)
+returns-2 c = search (longword-some, needs)
 
 pub from-longword-spec : {M : Type 1} → statement M
 from-longword-spec =
-    tie.close
-    (tie.spec
-    returns
-    wide-requires
-    word-of-size-requires
-    returns-2
-    wide-requires-2
-    sub-word-of-size
-    word-of-size-requires-2
-    returns-3)
+    tie.close (tie.spec returns wide-requires size-of-requires word-of-size-requires returns-2)

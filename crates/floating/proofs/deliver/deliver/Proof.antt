@@ -1,51 +1,53 @@
 -- `floating::deliver::deliver` meets its contract. Assumes nothing.
-use borrow.Author.Needs.{needs}
+use native.Mathlib.Omega.{arith}
+use Prim.Native.Nat.{_-_}
 use Rattle.floating.specs.Format.{F}
-use Rattle.floating.proofs.Delivering.{judged-under, judged-over, judged-word}
+use Rattle.floating.specs.Steps.{settled}
+use Rattle.floating.proofs.Packing.{settled-under, settled-over, settled-word}
+use Rattle.floating.proofs.Refusing.{answer-under, answer-over, answer-word}
+use borrow.Author.Needs.{needs}
 use Rattle.floating.proofs.deliver.deliver.Statement.{statement}
 use Rattle.floating.proofs.deliver.deliver.Tie as tie
 
-add-if1 : tie.Need-add-if1
-add-if1 c = search needs
+chosen-requires : tie.Need-chosen-requires
+chosen-requires c κs = search needs
+
+chosen-requires-2 : tie.Need-chosen-requires-2
+chosen-requires-2 c κs = search needs
 
 returns : tie.Need-returns
-returns c = judged-under F _ _ _ _ _ _ (c .if1 .taken)
+returns c =
+    let a = c .before .before .before .args in
+    answer-under (a .exc) (settled F (a .s) (a .e - a .down) (a .m)) (c .before .chosen .result) (c .chosen2 .result) (c .before .chosen .ensures) (c .chosen2 .ensures) (settled-under (a .s) (a .e - a .down) (a .m) (omega arith))
 
-add-if2 : tie.Need-add-if2
-add-if2 c = search needs
+sub-field : tie.Need-sub-field
+sub-field c = search needs
 
-add-if2-2 : tie.Need-add-if2-2
-add-if2-2 c = search needs
+packed-of-requires : tie.Need-packed-of-requires
+packed-of-requires c κs = search needs
 
 returns-2 : tie.Need-returns-2
-returns-2 c = judged-over F _ _ _ _ _ _ (c .before .before .if1 .left) (c .if2 .taken)
-
-add-word-of : tie.Need-add-word-of
-add-word-of c = search needs
-
-sub-word-of : tie.Need-sub-word-of
-sub-word-of c = search needs
-
-sub-word-of-2 : tie.Need-sub-word-of-2
-sub-word-of-2 c = search needs
+returns-2 c =
+    let a = c .before .before .before .args in
+    answer-over (a .exc) (settled F (a .s) (a .e - a .down) (a .m)) (settled-over (a .s) (a .e - a .down) (a .m) (c .before .packed-of .result) (omega arith) (omega arith) (omega arith) (c .before .packed-of .ensures) (omega arith))
 
 word-of-requires : tie.Need-word-of-requires
 word-of-requires c κs = search needs
 
 returns-3 : tie.Need-returns-3
-returns-3 c = search (judged-word F, needs)
+returns-3 c =
+    let a = c .before .before .before .before .args in
+    answer-word (a .exc) (settled F (a .s) (a .e - a .down) (a .m)) (c .word-of .result) (settled-word (a .s) (a .e - a .down) (a .m) (c .before .before .packed-of .result) (omega arith) (omega arith) (omega arith) (c .before .before .packed-of .ensures) (c .word-of .result) (omega arith) (omega arith) (c .word-of .ensures))
 
 pub deliver-spec : {M : Type 1} → statement M
 deliver-spec =
     tie.close
     (tie.spec
-    add-if1
+    chosen-requires
+    chosen-requires-2
     returns
-    add-if2
-    add-if2-2
+    sub-field
+    packed-of-requires
     returns-2
-    add-word-of
-    sub-word-of
-    sub-word-of-2
     word-of-requires
     returns-3)

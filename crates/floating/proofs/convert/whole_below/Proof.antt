@@ -1,0 +1,29 @@
+-- `floating::convert::whole_below` meets its contract. Assumes nothing.
+use native.Mathlib.Omega.{arith}
+use Prim.Native.Nat.{_-_, _*_}
+use Rattle.floating.proofs.Align.{div-small}
+use Rattle.floating.proofs.Converting.{cut-whole}
+use borrow.Author.Needs.{needs}
+use Rattle.floating.proofs.convert.whole_below.Statement.{statement}
+use Rattle.floating.proofs.convert.whole_below.Tie as tie
+
+mul-cut-down : tie.Need-mul-cut-down
+mul-cut-down c = search needs
+
+sub-cut-down : tie.Need-sub-cut-down
+sub-cut-down c = search needs
+
+cut-down-requires : tie.Need-cut-down-requires
+cut-down-requires c κs = search needs
+
+add-result : tie.Need-add-result
+add-result c = omega (arith, div-small (c .before .args .m * 2) (152 - c .before .args .e))
+
+returns : tie.Need-returns
+returns c =
+    let s = div-small (c .before .args .m * 2) (152 - c .before .args .e) in
+    (search (cut-whole, needs), omega arith)
+
+pub whole-below-spec : {M : Type 1} → statement M
+whole-below-spec =
+    tie.close (tie.spec mul-cut-down sub-cut-down cut-down-requires add-result returns)

@@ -1,0 +1,18 @@
+-- `floating::word::magnitude_of` meets its contract. Assumes nothing.
+use native.Mathlib.Omega.{arith}
+use Rattle.floating.proofs.Packing.{magnitude-is}
+use borrow.Author.Needs.{needs}
+use Rattle.floating.proofs.word.magnitude_of.Statement.{statement}
+use Rattle.floating.proofs.word.magnitude_of.Tie as tie
+
+mul-result : tie.Need-mul-result
+mul-result c = search needs
+
+add-result : tie.Need-add-result
+add-result c = search needs
+
+returns : tie.Need-returns
+returns c = magnitude-is (c .args .word) (omega arith)
+
+pub magnitude-of-spec : {M : Type 1} → statement M
+magnitude-of-spec = tie.close (tie.spec mul-result add-result returns)
