@@ -56,8 +56,8 @@ cut-few d e he = subst (λ (z : ℕ). z < 64) (sym he) (go (ltb d 50) (ltb→lt 
     go true l = let k : d < 50 = l tt in omega arith
     go false l = lit< tt
 
-pub div-small : (x d : ℕ) → x / 2 ^ d ≤ x
-div-small x d = div-le-self x (2 ^ d)
+pub cut-small : (x d r : ℕ) → r ≡ x / 2 ^ d → r ≤ x
+cut-small x d r h = le-trans (le-of-eq h) (div-le-self x (2 ^ d))
 
 -- ---- the whole part of a sum
 sum-cut : (a b u d : ℕ) → a * u + b * u / 2 ^ d ≡ (a * 2 ^ d + b) * u / 2 ^ d

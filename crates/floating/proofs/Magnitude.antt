@@ -1,15 +1,13 @@
 -- Of two numbers of a format that with the larger magnitude is the larger, up to their signs. Over the format. Assumes nothing.
 use mathlib.Core.Path.{_≡_, refl, sym, ap, _∙_, subst}
 use mathlib.Core.Logic.{_⊎_, inl, inr}
-use mathlib.Core.Bool.{cond}
 use Prim.Native.Nat.{ℕ, suc, _+_, _-_, _*_, _/_, _%_, _^_, _≤_, _<_}
 use native.Mathlib.Nat.{le-of-eq, le-of-lt, lt-of-le-of-lt, lt-of-lt-of-le, eq-or-lt-of-le, eq-zero-or-pos, mod-lt, div-add-mod', mul-comm, mul-assoc, mul-one, mul-pos, suc-mul, mul-le-mul, mul-le-mul-right, mul-lt-mul-of-pos-right}
 use native.Mathlib.Omega.{arith}
-use lib.Dec.{eqb}
 use lib.Arith.{digits-div, digits-mod}
 use lib.Pow.{pow-add, pow-pos, pow-mono}
 use borrow.Author.Tests.{eq-eqb, ne-eqb}
-use Rattle.floating.specs.Format.{Format, exponentOf, fractionOf, significandOf}
+use Rattle.floating.specs.Format.{Format, exponentOf, significandOf}
 use Rattle.floating.specs.Exact.{sizeOf}
 use Rattle.floating.specs.Steps.{magnitude, sizeAt, rank}
 use Rattle.floating.proofs.Products.{size-none, size-some}

@@ -7,7 +7,6 @@ use lib.Dec.{eqb}
 use borrow.Author.Tests.{eqb-true, eqb-false, ne-eqb}
 use Rattle.floating.specs.declared.Outcome.{Outcome}
 use Rattle.floating.specs.declared.Outcome.the-variants.{Word, Overflow, Underflow, Reserved}
-use Rattle.floating.specs.declared.Answer.{Answer}
 use Rattle.floating.specs.Format.{Format, exponentOf, isReserved}
 use Rattle.floating.specs.Operations.{answered}
 

@@ -2,7 +2,7 @@
 use mathlib.Core.Path.{_≡_, refl, sym, ap, _∙_, subst}
 use mathlib.Core.Logic.{_⊎_, inl, inr}
 use Prim.Native.Nat.{ℕ, suc, _+_, _-_, _*_, _/_, _^_, _≤_, _<_}
-use native.Mathlib.Nat.{le-trans, le-of-eq, le-antisymm, lt-of-le-of-lt, lt-of-lt-of-le, lt-of-not-le, not-le-of-lt, eq-or-lt-of-le, le-div-iff-mul-le, div-lt-iff-lt-mul, div-mul-le-self, lt-div-mul-add, div-div-eq-div-mul, mul-div-mul-right, add-mul-div-right, div-one, one-mul, suc-mul, mul-comm, mul-assoc, mul-left-comm, mul-right-comm, add-mul, mul-le-mul-left, mul-le-mul-right, le-of-mul-le-mul-right, lt-of-mul-lt-mul-right, mul-pos, pow-suc}
+use native.Mathlib.Nat.{le-trans, le-of-eq, le-antisymm, lt-of-le-of-lt, lt-of-lt-of-le, lt-of-not-le, not-le-of-lt, eq-or-lt-of-le, le-div-iff-mul-le, div-lt-iff-lt-mul, div-mul-le-self, lt-div-mul-add, div-div-eq-div-mul, mul-div-mul-right, add-mul-div-right, one-mul, suc-mul, mul-comm, mul-assoc, mul-left-comm, mul-right-comm, add-mul, mul-le-mul-left, mul-le-mul-right, le-of-mul-le-mul-right, lt-of-mul-lt-mul-right, mul-pos, pow-suc}
 use native.Mathlib.Omega.{arith}
 use mathlib.Core.Bool.{Bool, true, false, not, cond}
 use lib.Dec.{T, ltb, ltb→lt, nltb→le, lit<}
@@ -218,19 +218,6 @@ rounded-same p a b c d B D e =
     ap (λ (z : ℕ). carried p (near a (b * 2 ^ (size z - p))) (size z - p)) (div-same a b c d B D e)
     ∙ ap (λ (z : ℕ). carried p z k) (near-same a (b * 2 ^ k) c (d * 2 ^ k) (mul-pos B (pow-pos k)) (mul-pos D (pow-pos k))
     (sym (mul-assoc a d (2 ^ k)) ∙ ap (λ (z : ℕ). z * 2 ^ k) e ∙ mul-assoc c b (2 ^ k)))
-
--- ---- Where the whole part has more than p digits, it alone decides: a quotient, or a sum with a far smaller number, may be cut to it.
-pub rounded-floor : (p num den : ℕ) → 0 < den → den * 2 ^ p ≤ num → rounded p num den ≡ rounded p (num / den) 1
-unfolding rounded
-rounded-floor p num den D h =
-    let w = num / den in
-    let k = places p num den in
-    let big : p < size w = size-gt w p (le-div-iff-mul-le D .1 (le-trans (le-of-eq (mul-comm (2 ^ p) den)) h)) in
-    let e : suc (k - 1) ≡ k = omega arith in
-    let u : 2 ^ (k - 1) * 2 ≡ 2 ^ k = sym (pow-suc 2 (k - 1)) ∙ ap (λ (z : ℕ). 2 ^ z) e in
-    ap (λ (z : ℕ). carried p z k)
-    (ap (λ (z : ℕ). near num (den * z)) (sym u) ∙ near-floor num den (2 ^ (k - 1)) D (pow-pos (k - 1)) ∙ ap (λ (z : ℕ). near w z) (u ∙ sym (one-mul (2 ^ k))))
-    ∙ ap (λ (z : ℕ). carried p (near w (1 * 2 ^ (size z - p))) (size z - p)) (sym (div-one w))
 
 -- ---- the carry moves the exponent by one at most
 pub carried-steps : (p r k : ℕ) → (k ≤ carried p r k .exp) × (carried p r k .exp ≤ k + 1)

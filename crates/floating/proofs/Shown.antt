@@ -18,11 +18,15 @@ use Rattle.floating.specs.Steps.{Reads}
 use Rattle.floating.proofs.Products.{size-none, size-some}
 
 -- ---- F_floating
-module _ (w : ℕ) (t : Bool) (ht : t ≡ isReserved F w) where
-  pub shows-reserved : (c : ℕ) → t ≡ true → c ≡ w % 16 → Shows F w (Reserved c)
-  shows-reserved c y hc =
-      let e : isReserved F w ≡ true = sym ht ∙ y in
-      record { kind = sym (simp e); bits = hc ∙ sym (simp e); value = tt }
+-- no exponent: reserved with the sign, and zero without it
+by-sign : (w e s : ℕ) → e ≡ exponentOf F w → e ≡ 0 → s ≡ signOf F w → eqb s 1 ≡ isReserved F w
+by-sign w e s he z hs = ap (λ (y : ℕ). eqb y 1) hs ∙ sym (simp (eq-eqb (exponentOf F w) 0 (sym he ∙ z)))
+
+module _ (w : ℕ) where
+  pub shows-reserved : (e s c : ℕ) → e ≡ exponentOf F w → e ≡ 0 → s ≡ signOf F w → s ≡ 1 → c ≡ w % 16 → Shows F w (Reserved c)
+  shows-reserved e s c he z hs y hc =
+      let r : isReserved F w ≡ true = sym (by-sign w e s he z hs) ∙ eq-eqb s 1 y in
+      record { kind = sym (simp r); bits = hc ∙ sym (simp r); value = tt }
 
   zero-bits : toBits binary64 (ofBits binary64 0) ≡ 0
   unfolding toBits ofBits size
@@ -35,27 +39,24 @@ module _ (w : ℕ) (t : Bool) (ht : t ≡ isReserved F w) where
   by-tests : (p q : Bool) (a b : ℕ) → p ≡ false → q ≡ true → cond p a (cond q 0 b) ≡ 0
   by-tests p q a b h k = simp (h, k)
 
-  positive : (s : ℕ) → cond true (eqb s 1) false ≡ false → eqb s 1 ≡ false
-  positive s h = h
-
-  pub shows-zero : (e : ℕ) → t ≡ false → e ≡ exponentOf F w → e ≡ 0 → Shows F w (Number (ofBits binary64 0))
-  shows-zero e n he z =
-      let r : isReserved F w ≡ false = sym ht ∙ n in
+  pub shows-zero : (e s : ℕ) → e ≡ exponentOf F w → e ≡ 0 → s ≡ signOf F w → (s ≡ 1 → ⊥) → Shows F w (Number (ofBits binary64 0))
+  shows-zero e s he z hs n =
+      let p : eqb s 1 ≡ false = ne-eqb s 1 n in
+      let r : isReserved F w ≡ false = sym (by-sign w e s he z hs) ∙ p in
       let x : eqb (exponentOf F w) 0 ≡ true = eq-eqb (exponentOf F w) 0 (sym he ∙ z) in
-      let s : eqb (signOf F w) 1 ≡ false = positive (signOf F w) (ap (λ (b : Bool). cond b (eqb (signOf F w) 1) false) (sym x) ∙ r) in
+      let q : eqb (signOf F w) 1 ≡ false = ap (λ (y : ℕ). eqb y 1) (sym hs) ∙ p in
       record {
         kind = sym (simp r);
         bits = zero-bits ∙ sym (by-tests (isReserved F w) (eqb (exponentOf F w) 0) (w % 16) (doubleBits F (signOf F w) (exponentOf F w) (fractionOf F w)) r x);
-        value = subst (λ (k : ℕ). HasValue (ofBits binary64 0) (eqb (signOf F w) 1) k (2 ^ 152)) (sym (size-none F w (sym he ∙ z))) (zero-value (eqb (signOf F w) 1) (2 ^ 152) s);
+        value = subst (λ (k : ℕ). HasValue (ofBits binary64 0) (eqb (signOf F w) 1) k (2 ^ 152)) (sym (size-none F w (sym he ∙ z))) (zero-value (eqb (signOf F w) 1) (2 ^ 152) q);
       }
 
-  pub shows-number : (x : Float) (e : ℕ) → t ≡ false → e ≡ exponentOf F w → (e ≡ 0 → ⊥) → Reads F w x → Shows F w (Number x)
-  shows-number x e n he ne R =
-      let r : isReserved F w ≡ false = sym ht ∙ n in
+  pub shows-number : (x : Float) (e : ℕ) → e ≡ exponentOf F w → (e ≡ 0 → ⊥) → Reads F w x → Shows F w (Number x)
+  shows-number x e he ne R =
       let z : (exponentOf F w ≡ 0 → ⊥) = λ y. ne (he ∙ y) in
       let y : eqb (exponentOf F w) 0 ≡ false = ne-eqb (exponentOf F w) 0 z in
       record {
-        kind = sym (simp r);
+        kind = sym (simp y);
         bits = R .bits ∙ sym (simp y);
         value = subst (λ (k : ℕ). HasValue x (eqb (signOf F w) 1) k (2 ^ 152)) (sym (size-some F w z)) (R .value);
       }

@@ -11,7 +11,7 @@ use borrow.Author.Tests.{eq-eqb, ne-eqb, lt-ltb, le-ltb, eqb-true, eqb-false}
 use Rattle.floating.specs.declared.Outcome.{Outcome}
 use Rattle.floating.specs.declared.Outcome.the-variants.{Word, Reserved}
 use Rattle.floating.specs.Format.{Format, F, signOf, exponentOf, fractionOf, significandOf, isReserved, wordOf}
-use Rattle.floating.specs.Exact.{units, sizeOf, valueOf, together}
+use Rattle.floating.specs.Exact.{units, sizeOf, together}
 use Rattle.floating.specs.Round.{near, Rounded}
 use Rattle.floating.specs.Delivered.{judged, delivered}
 use Rattle.floating.specs.Operations.{sum, difference}

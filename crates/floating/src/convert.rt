@@ -11,7 +11,7 @@ ghost use Prim.Native.Nat.{_-_, _*_, _^_, _<_, _≤_};
 ghost use Rattle.floating.specs.Format.{F};
 ghost use Rattle.floating.specs.Exact.{whole};
 ghost use Rattle.floating.specs.Delivered.{delivered};
-ghost use Rattle.floating.specs.Operations.{lowBits, isWide, longword, toLongword, fromLongword};
+ghost use Rattle.floating.specs.Operations.{lowBits, isWide, toLongword, fromLongword};
 ghost use Rattle.floating.specs.Steps.{wholeBy, StandsFor};
 
 // m * 2 ^ (e - 152), made whole, where the places of the fraction are cut off: a longword holds it.

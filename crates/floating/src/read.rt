@@ -2,8 +2,8 @@
 use crate::Reading;
 use crate::word;
 ghost use mathlib.Core.Path.{_≡_};
-ghost use mathlib.Core.Bool.{false};
 ghost use Prim.Native.Nat.{_%_, _^_, _<_};
+ghost use lib.Dec.{eqb};
 ghost use lib.Ieee.{binary64, toBits};
 ghost use lib.Ieee.Exact.{HasValue};
 ghost use mir.Syntax.{w32};
@@ -12,23 +12,22 @@ ghost use Rattle.floating.specs.Format.{F, exponentOf};
 ghost use Rattle.floating.specs.Reading.{Shows, bitsOf};
 ghost use Rattle.floating.specs.Steps.{Reads};
 
-// 2 ^ (e - 152)
-fn scale_of(e: u32) -> f64
-    requires { ⌜ e < 256 ⌝ }
-    ensures { λ r. ⌜ HasValue r false (2 ^ e) (2 ^ 152) ⌝ }
+// 2 ^ (e - 152), with the sign s.
+fn scale_of(s: u32, e: u32) -> f64
+    requires { ⌜ (s < 2) × (e < 256) ⌝ }
+    ensures { λ r. ⌜ HasValue r (eqb s 1) (2 ^ e) (2 ^ 152) ⌝ }
 {
-    f64::from_bits(word::wide(e + 871) * 4503599627370496)
+    f64::from_bits(word::wide(s * 2048 + e + 871) * 4503599627370496)
 }
 
-// The whole number of 24 bits, times a power of two: each operation is exact.
+// The whole number of 24 bits, times a power of two with the sign: each operation is exact.
 fn number_of(word: u32) -> f64
     requires { ⌜ 0 < exponentOf F word ⌝ }
     ensures { λ r. ⌜ Reads F word r ⌝ }
 {
     let e = word::exponent_of(word);
     let m = 8388608 + word::fraction_of(word);
-    let x = m as f64 * scale_of(e);
-    if word / 32768 % 2 == 1 { -x } else { x }
+    m as f64 * scale_of(word::sign_of(word), e)
 }
 
 fn code_of(word: u32) -> u8
@@ -40,10 +39,10 @@ fn code_of(word: u32) -> u8
 pub fn floating(word: u32) -> Reading
     ensures { λ r. ⌜ Shows F word r ⌝ }
 {
-    if word::is_reserved(word) {
-        return Reading::Reserved(code_of(word));
-    }
     if word::exponent_of(word) == 0 {
+        if word::sign_of(word) == 1 {
+            return Reading::Reserved(code_of(word));
+        }
         return Reading::Number(0.0);
     }
     Reading::Number(number_of(word))

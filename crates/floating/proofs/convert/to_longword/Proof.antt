@@ -1,5 +1,4 @@
 -- `floating::convert::to_longword` meets its contract. Assumes nothing.
-use Rattle.floating.specs.Format.{F}
 use Rattle.floating.proofs.Converting.{source-none, source-below, source-above, narrow-made, record-made}
 use borrow.Author.Needs.{needs}
 use Rattle.floating.proofs.convert.to_longword.Statement.{statement}

@@ -1,7 +1,6 @@
 -- `floating::convert::whole_below` meets its contract. Assumes nothing.
 use native.Mathlib.Omega.{arith}
-use Prim.Native.Nat.{_-_, _*_}
-use Rattle.floating.proofs.Align.{div-small}
+use Rattle.floating.proofs.Align.{cut-small}
 use Rattle.floating.proofs.Converting.{cut-whole}
 use borrow.Author.Needs.{needs}
 use Rattle.floating.proofs.convert.whole_below.Statement.{statement}
@@ -17,11 +16,11 @@ cut-down-requires : tie.Need-cut-down-requires
 cut-down-requires c κs = search needs
 
 add-result : tie.Need-add-result
-add-result c = omega (arith, div-small (c .before .args .m * 2) (152 - c .before .args .e))
+add-result c = let s = cut-small _ _ _ (c .cut-down .ensures) in omega arith
 
 returns : tie.Need-returns
 returns c =
-    let s = div-small (c .before .args .m * 2) (152 - c .before .args .e) in
+    let s = cut-small _ _ _ (c .cut-down .ensures) in
     (search (cut-whole, needs), omega arith)
 
 pub whole-below-spec : {M : Type 1} → statement M

@@ -4,17 +4,17 @@ use borrow.Author.Needs.{needs}
 use Rattle.floating.proofs.read.floating.Statement.{statement}
 use Rattle.floating.proofs.read.floating.Tie as tie
 
-is-reserved-requires : tie.Need-is-reserved-requires
-is-reserved-requires c κs = search needs
+exponent-of-requires : tie.Need-exponent-of-requires
+exponent-of-requires c κs = search needs
+
+sign-of-requires : tie.Need-sign-of-requires
+sign-of-requires c κs = search needs
 
 code-of-requires : tie.Need-code-of-requires
 code-of-requires c κs = search needs
 
 returns : tie.Need-returns
 returns c = search (shows-reserved, needs)
-
-exponent-of-requires : tie.Need-exponent-of-requires
-exponent-of-requires c κs = search needs
 
 returns-2 : tie.Need-returns-2
 returns-2 c = search (shows-zero, needs)
@@ -29,10 +29,10 @@ pub floating-spec : {M : Type 1} → statement M
 floating-spec =
     tie.close
     (tie.spec
-    is-reserved-requires
+    exponent-of-requires
+    sign-of-requires
     code-of-requires
     returns
-    exponent-of-requires
     returns-2
     number-of-requires
     returns-3)

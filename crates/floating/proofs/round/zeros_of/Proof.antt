@@ -1,6 +1,5 @@
 -- `floating::round::zeros_of` meets its contract. Assumes nothing.
 use native.Mathlib.Omega.{arith}
-use mathlib.Core.Path.{_≡_}
 use Prim.Native.Nat.{_<_}
 use Rattle.floating.proofs.Align.{zeros-few, digits-low, digits-high}
 use Rattle.floating.proofs.round.zeros_of.Statement.{statement}

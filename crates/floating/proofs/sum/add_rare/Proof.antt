@@ -1,5 +1,5 @@
 -- `floating::sum::add_rare` meets its contract. Assumes nothing.
-use mathlib.Core.Path.{_≡_, sym, _∙_}
+use mathlib.Core.Path.{sym, _∙_}
 use Rattle.floating.specs.Format.{F}
 use Rattle.floating.proofs.Packing.{F-sound}
 use Rattle.floating.proofs.Sums.{left-none, right-none}

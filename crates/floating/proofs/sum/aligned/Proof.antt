@@ -1,7 +1,7 @@
 -- `floating::sum::aligned` meets its contract. Assumes nothing.
 use native.Mathlib.Omega.{arith}
-use Prim.Native.Nat.{_-_, _*_}
-use Rattle.floating.proofs.Align.{div-small, cut-room, times-unit, minus-cut, plus-cut}
+use Prim.Native.Nat.{_*_}
+use Rattle.floating.proofs.Align.{cut-small, cut-room, times-unit, minus-cut, plus-cut}
 use borrow.Author.Needs.{needs}
 use Rattle.floating.proofs.sum.aligned.Statement.{statement}
 use Rattle.floating.proofs.sum.aligned.Tie as tie
@@ -16,7 +16,7 @@ cut-down-requires : tie.Need-cut-down-requires
 cut-down-requires c κs = search needs
 
 add-c : tie.Need-add-c
-add-c c = omega (arith, div-small (c .before .args .b * 67108864 - c .before .args .o) (c .before .args .d))
+add-c c = let s = cut-small _ (c .before .args .d) _ (c .cut-down .ensures) in omega arith
 
 mul-result : tie.Need-mul-result
 mul-result c = search needs
@@ -31,7 +31,7 @@ mul-result-2 : tie.Need-mul-result-2
 mul-result-2 c = search needs
 
 add-result : tie.Need-add-result
-add-result c = omega (arith, div-small (c .before .before .args .b * 67108864 - c .before .before .args .o) (c .before .before .args .d))
+add-result c = let s = cut-small _ (c .before .before .args .d) _ (c .before .cut-down .ensures) in omega arith
 
 returns : tie.Need-returns
 returns c = search (minus-cut, needs)
