@@ -4,7 +4,8 @@ use mathlib.Core.Path.{_≡_, refl, sym, ap, ap₂, _∙_}
 use mathlib.Core.List.{List, [], _∷_}
 use Prim.Native.Nat.{ℕ, _+_, _^_, _≤_, _<_}
 use lib.ListN.{length, getD}
-use borrow.Author.Tests.{not-true, not-false, lt-ltb}
+use borrow.Author.Tests.{not-true, not-false, le-ltb}
+use Rattle.numbers.specs.Bits.{bit, OnesBelow}
 use Rattle.state.specs.State.{State}
 use Rattle.opcodes.specs.declared.Instruction.{Instruction}
 use Rattle.memory.specs.declared.Access.{Access}
@@ -16,28 +17,34 @@ use Rattle.memory.specs.Move.{Moved, moved, loadStep, storeStep, movesBy
 use types.Run.{OneOf, miss}
 use denote.Enum.Declared.{tagOf}
 use Rattle.memory.proofs.Access.{the-type}
-use Rattle.numbers.proofs.Rising.{alike}
-use Rattle.memory.proofs.Testing.{all-within}
+use Rattle.numbers.proofs.Rising.{cut}
+use Rattle.memory.proofs.Testing.{or-done, all-within}
 use Rattle.memory.proofs.Windows.{ends-within}
 
--- elements that are chosen alike and have like addresses below n
-module _ (n : ℕ) (chosen chosen′ : ℕ → Bool) (address address′ : ℕ → ℕ)
-    (choice : (i : ℕ) → i < n → chosen i ≡ chosen′ i)
+-- elements that are chosen alike, none of them from n on, and have like addresses below n
+module _ (n m : ℕ) (short : n ≤ m) (chosen chosen′ : ℕ → Bool) (address address′ : ℕ → ℕ)
+    (choice : (i : ℕ) → chosen i ≡ chosen′ i)
+    (left : (i : ℕ) → n ≤ i → chosen′ i ≡ false)
     (place : (i : ℕ) → i < n → address i ≡ address′ i) where
-  like-tests : (size origin end : ℕ) → tested size origin end chosen address n ≡ tested size origin end chosen′ address′ n
+  like-tests : (size origin end : ℕ) → tested size origin end chosen address m ≡ tested size origin end chosen′ address′ n
   unfolding testStep
-  like-tests size origin end = alike _ _ n Done (λ i x h. let c = choice i h in let p = place i h in rw (c, p))
+  like-tests size origin end =
+      cut _ _ n m Done short
+      (λ i x h. let c = choice i in let p = place i h in rw (c, p))
+      (λ i x h. let c : chosen i ≡ false = choice i ∙ left i h in rw c (or-done x))
 
   like-moves : (store quadword : Bool) (origin vc : ℕ) (l w : List ℕ) →
-      movesBy store quadword origin vc chosen address n l w ≡ movesBy store quadword origin vc chosen′ address′ n l w
+      movesBy store quadword origin vc chosen address m l w ≡ movesBy store quadword origin vc chosen′ address′ n l w
   unfolding storeStep loadStep
   like-moves true quadword origin vc l w =
-      ap (moved Done l) (alike _ _ n w (λ i x h. let c = choice i h in let p = place i h in rw (c, p)))
+      ap (moved Done l)
+      (cut _ _ n m w short (λ i x h. let c = choice i in let p = place i h in rw (c, p)) (λ i x h. let c : chosen i ≡ false = choice i ∙ left i h in rw c))
   like-moves false quadword origin vc l w =
-      ap (λ (x : List ℕ). moved Done x w) (alike _ _ n l (λ i x h. let c = choice i h in let p = place i h in rw (c, p)))
+      ap (λ (x : List ℕ). moved Done x w)
+      (cut _ _ n m l short (λ i x h. let c = choice i in let p = place i h in rw (c, p)) (λ i x h. let c : chosen i ≡ false = choice i ∙ left i h in rw c))
 
   like : (store quadword : Bool) (origin vc : ℕ) (l w : List ℕ) →
-      movedBy store quadword origin vc chosen address n l w ≡ movedBy store quadword origin vc chosen′ address′ n l w
+      movedBy store quadword origin vc chosen address m l w ≡ movedBy store quadword origin vc chosen′ address′ n l w
   like store quadword origin vc l w =
       ap₂ (λ (a : Access) (m : Moved). unlessBad a m l w)
       (like-tests (sizeOf quadword) origin (origin + length w))
@@ -75,17 +82,19 @@ module _ (s : State) (ins : Instruction) (base stride : ℕ) (w : List ℕ) (ori
     pub ends-in-time : origin + length w ≤ 2 ^ 32
     ends-in-time = ends-within (length w) origin (sym said ∙ not-false fit passed)
 
-    -- `a` are the addresses that were worked out
+    -- `a` are the addresses that were worked out, and `which` the elements that are operated on
     pub done : (a : List ℕ) → ((i : ℕ) → i < s .control .vlr → getD a i 0 ≡ addressOf ins base stride (s .elements) i)
+        → s .control .vlr ≤ 64 → (which : ℕ) → OnesBelow (s .control .vlr) (chosenBy (ins .moe) (ins .mtf) (s .control .vmr)) which
         → (store quadword : Bool) → store ≡ isStore (ins .work) → quadword ≡ isQuadword (ins .work)
         → (m : Moved)
-        → m ≡ movedBy store quadword origin (ins .vc .0) (chosenBy (ins .moe) (ins .mtf) (s .control .vmr)) (λ (k : ℕ). getD a k 0) (s .control .vlr) (s .elements) w
+        → m ≡ movedBy store quadword origin (ins .vc .0) (bit which) (λ (k : ℕ). getD a k 0) 64 (s .elements) w
         → m ≡ movedOf s ins base stride w origin
     unfolding movedOf
-    done a filled store quadword es eq m e =
+    done a filled short which chosen store quadword es eq m e =
         let g : allowed (length w) origin ≡ true = sym said ∙ not-false fit passed in
-        let k = like (s .control .vlr) (chosenBy (ins .moe) (ins .mtf) (s .control .vmr)) (operated ins (s .control))
+        let k = like (s .control .vlr) 64 short (bit which) (operated ins (s .control))
         (λ (k : ℕ). getD a k 0) (addressOf ins base stride (s .elements))
-        (λ i h. sym (ap (λ (b : Bool). b && chosenBy (ins .moe) (ins .mtf) (s .control .vmr) i) (lt-ltb i (s .control .vlr) h)))
+        (chosen .ones)
+        (λ i h. ap (λ (b : Bool). b && chosenBy (ins .moe) (ins .mtf) (s .control .vmr) i) (le-ltb i (s .control .vlr) h))
         filled store quadword origin (ins .vc .0) (s .elements) w in
         rw (g, ← es, ← eq) (e ∙ k)

@@ -1,12 +1,14 @@
 -- Laws of what is moved. Assumes nothing.
 use mathlib.Core.Bool.{Bool, true, false}
-use mathlib.Core.Path.{_≡_, sym, ap, _∙_}
+use mathlib.Core.Path.{_≡_, refl, ap, _∙_}
 use mathlib.Core.List.{List}
 use Prim.Native.Nat.{ℕ, _+_, _-_, _≤_}
 use native.Mathlib.Omega.{arith}
 use lib.ListN.{take, drop, set}
 use borrow.Rule.Slice.PartMut.{putMid}
 use Rattle.numbers.specs.Halves.{withLow}
+use Rattle.numbers.specs.Bits.{bit}
+use Rattle.numbers.specs.Rising.{rising, ofOnes}
 use Rattle.numbers.specs.Bytes.{bytesOf, numberOf}
 use Rattle.state.specs.State.{placeOf}
 use Rattle.state.specs.Elements.{at}
@@ -37,39 +39,34 @@ module _ (quadword : Bool) (w : List ℕ) (offset old r : ℕ) where
   longword-received v e f g = g ∙ ap (withLow old) (f ∙ ap (λ (k : ℕ). numberOf (take k (drop offset w))) (part-of 4 offset)) ∙ rw e
 
 -- a part that came back
-module _ (quadword : Bool) (w part : List ℕ) (offset v : ℕ) where
-  pub quadword-put : quadword ≡ true → part ≡ bytesOf 8 v → putMid offset (offset + 8 - offset) w part ≡ putAt (sizeOf quadword) w offset v
-  quadword-put e f = rw e (put 8 w part offset v f)
+module _ (quadword : Bool) (w part : List ℕ) (origin address v offset : ℕ) (at : offset ≡ address - origin) where
+  pub quadword-put : quadword ≡ true → part ≡ bytesOf 8 v → putMid offset (offset + 8 - offset) w part ≡ putAt (sizeOf quadword) w (address - origin) v
+  quadword-put e f = rw (e, ← at) (put 8 w part offset v f)
 
-  pub longword-put : quadword ≡ false → part ≡ bytesOf 4 v → putMid offset (offset + 4 - offset) w part ≡ putAt (sizeOf quadword) w offset v
-  longword-put e f = rw e (put 4 w part offset v f)
+  pub longword-put : quadword ≡ false → part ≡ bytesOf 4 v → putMid offset (offset + 4 - offset) w part ≡ putAt (sizeOf quadword) w (address - origin) v
+  longword-put e f = rw (e, ← at) (put 4 w part offset v f)
 
--- an operated element's bytes lie in the window
-module _ (chosen b : Bool) (said : b ≡ chosen) (size origin bytes address : ℕ) (lies : chosen ≡ true → Within size origin (origin + bytes) address) (taken : b ≡ true) where
-  pub starts-within : origin ≤ address
-  starts-within = lies (sym said ∙ taken) .0
+-- an element's bytes lie in the window
+module _ (quadword : Bool) (origin bytes address : ℕ) (lies : Within (sizeOf quadword) origin (origin + bytes) address) (offset : ℕ) (at : offset ≡ address - origin) where
+  pub eight-within : quadword ≡ true → offset + 8 ≤ bytes
+  eight-within e = eight-fit quadword offset bytes (omega arith) e
 
-  pub lies-within : (offset : ℕ) → offset ≡ address - origin → offset + size ≤ bytes
-  lies-within offset e = let h = lies (sym said ∙ taken) in omega arith
+  pub four-within : quadword ≡ false → offset + 4 ≤ bytes
+  four-within e = four-fit quadword offset bytes (omega arith) e
 
--- one step
-module _ (quadword : Bool) (origin vc : ℕ) (chosen : ℕ → Bool) (address : ℕ → ℕ) (i : ℕ) (b : Bool) (said : b ≡ chosen i) (l w : List ℕ) where
-  pub load-taken : (offset : ℕ) (after : List ℕ) → b ≡ true → offset ≡ address i - origin
-      → after ≡ set l (placeOf vc i) (received quadword (at l vc i) (numberAt (sizeOf quadword) w offset))
-      → after ≡ loadStep quadword origin vc chosen address w i l
-  unfolding loadStep
-  load-taken offset after e f g = let c : chosen i ≡ true = sym said ∙ e in rw (c, ← f) g
+-- the steps of elements that are operated on
+unfoldable pub loadAt : Bool → ℕ → ℕ → (ℕ → ℕ) → List ℕ → ℕ → List ℕ → List ℕ
+loadAt quadword origin vc address w i l = set l (placeOf vc i) (received quadword (at l vc i) (numberAt (sizeOf quadword) w (address i - origin)))
 
-  pub load-left : b ≡ false → l ≡ loadStep quadword origin vc chosen address w i l
-  unfolding loadStep
-  load-left e = let c : chosen i ≡ false = sym said ∙ e in rw c
+unfoldable pub storeAt : Bool → ℕ → ℕ → (ℕ → ℕ) → List ℕ → ℕ → List ℕ → List ℕ
+storeAt quadword origin vc address l i w = putAt (sizeOf quadword) w (address i - origin) (at l vc i)
 
-  pub store-taken : (offset : ℕ) (after : List ℕ) → b ≡ true → offset ≡ address i - origin
-      → after ≡ putAt (sizeOf quadword) w offset (at l vc i)
-      → after ≡ storeStep quadword origin vc chosen address l i w
-  unfolding storeStep
-  store-taken offset after e f g = let c : chosen i ≡ true = sym said ∙ e in rw (c, ← f) g
+-- the ones of a set are the elements that are operated on
+module _ (quadword : Bool) (origin vc which : ℕ) (address : ℕ → ℕ) (n : ℕ) (l w : List ℕ) where
+  pub loads-ones : rising (ofOnes (loadAt quadword origin vc address w) which) n l ≡ rising (loadStep quadword origin vc (bit which) address w) n l
+  unfolding ofOnes loadAt loadStep
+  loads-ones = refl
 
-  pub store-left : b ≡ false → w ≡ storeStep quadword origin vc chosen address l i w
-  unfolding storeStep
-  store-left e = let c : chosen i ≡ false = sym said ∙ e in rw c
+  pub stores-ones : rising (ofOnes (storeAt quadword origin vc address l) which) n w ≡ rising (storeStep quadword origin vc (bit which) address l) n w
+  unfolding ofOnes storeAt storeStep
+  stores-ones = refl

@@ -1,21 +1,24 @@
 -- Laws of the tests. Assumes nothing.
 use mathlib.Core.Bool.{Bool, true, false, not, _&&_}
 use mathlib.Core.Path.{_≡_, refl, sym, ap, _∙_}
-use mathlib.Core.Logic.{⊎-elim}
-use Prim.Native.Nat.{ℕ, zero, suc, _+_, _%_, _≤_, _<_}
+use mathlib.Core.Logic.{_⊎_, inl, inr, ⊎-elim}
+use Prim.Native.Nat.{ℕ, zero, suc, _+_, _-_, _%_, _^_, _≤_, _<_}
 use native.Mathlib.Omega.{arith}
-use lib.Dec.{leb, eqb}
-use borrow.Author.Tests.{leb-true, not-true, not-false}
+use lib.Dec.{ltb, leb, eqb}
+use borrow.Author.Tests.{ltb-true, le-leb, leb-true, not-true, not-false}
+use Rattle.numbers.specs.Bits.{bit}
 use Rattle.numbers.specs.Choice.{pick}
+use Rattle.numbers.proofs.BitLaws.{bit-above}
+use Rattle.numbers.proofs.SetBits.{Walk, stops-walk, ends-walk}
 use Rattle.numbers.proofs.Tests.{and-left, and-right, below-or-not}
 use Rattle.memory.specs.declared.Test.{Test}
 use Rattle.memory.specs.declared.Test.the-variants as test
 use Rattle.memory.specs.declared.Access.{Access}
 use Rattle.memory.specs.declared.Access.the-variants as access
-use Rattle.numbers.specs.Rising.{rising}
+use Rattle.numbers.specs.Rising.{rising, ofOnes}
 use Rattle.memory.specs.Works.{sizeOf}
 use Rattle.memory.specs.Address.{testOf, Within, verdict, saying, orElse, testStep, tested}
-use Rattle.numbers.proofs.Rising.{turns, settles}
+use Rattle.numbers.proofs.Rising.{starts, settles, alike}
 
 -- an element that is fine lies in the window
 within : (size origin end address : ℕ) → testOf size origin end address ≡ test.Fine → Within size origin end address
@@ -28,6 +31,12 @@ within size origin end address e =
     picked true true e = refl
     picked true false e = let z : _≡_ {A = ℕ} 0 1 = cc in absurd (omega arith)
     picked false b e = let z : _≡_ {A = ℕ} 0 1 = cc in absurd (omega arith)
+
+pub or-done : (a : Access) → orElse a access.Done ≡ a
+or-done access.Done = refl
+or-done access.WindowRefused = refl
+or-done (access.Misaligned e) = refl
+or-done (access.OutsideWindow e) = refl
 
 both-done : (a b : Access) → orElse a b ≡ access.Done → (a ≡ access.Done) × (b ≡ access.Done)
 both-done access.Done b e = (refl, e)
@@ -55,25 +64,48 @@ module _ (size origin end : ℕ) (chosen : ℕ → Bool) (address : ℕ → ℕ)
   pub all-within : (n i : ℕ) → tested size origin end chosen address n ≡ access.Done → i < n → chosen i ≡ true → Within size origin end (address i)
   all-within n i e h c = within size origin end (address i) (rw c at (below n i h e))
 
-  -- the turns of the loop: no bad element below i, and what the test of element i says
-  module _ (i : ℕ) (before : access.Done ≡ tested size origin end chosen address i) (b : Bool) (operates : b ≡ chosen i) (t : Test)
-      (said : t ≡ verdict size origin end b (address i)) where
-    turn : saying i t ≡ tested size origin end chosen address (i + 1)
-    unfolding testStep
-    turn =
-        turns (testStep size origin end chosen address) i access.Done access.Done (saying i t) before
-        (ap (saying i) (said ∙ ap (λ (x : Bool). verdict size origin end x (address i)) operates))
+-- no element below n is bad, and the set has no others
+module _ (size origin end which n : ℕ) (address : ℕ → ℕ) (small : which < 2 ^ n) (fine : (i : ℕ) → i < n → testOf size origin end (address i) ≡ test.Fine) where
+  pub none-bad : access.Done ≡ tested size origin end (bit which) address 64
+  unfolding testStep
+  none-bad = settles (testStep size origin end (bit which) address) access.Done access.Done 0 64 (omega arith) (λ i _ _. each i (below-or-not i n)) (starts _ _)
+    where
+      either : (b : Bool) → pick b test.Fine test.Fine ≡ test.Fine
+      either true = refl
+      either false = refl
 
-    pub goes-on : t ≡ test.Fine → access.Done ≡ tested size origin end chosen address (i + 1)
-    goes-on e = rw e at turn
+      each : (i : ℕ) → (i < n) ⊎ (n ≤ i) → saying i (verdict size origin end (bit which i) (address i)) ≡ access.Done
+      each i (inl h) = ap (saying i) (ap (λ (t : Test). pick (bit which i) t test.Fine) (fine i h) ∙ either (bit which i))
+      each i (inr h) = ap (λ (b : Bool). saying i (verdict size origin end b (address i))) (bit-above which n i small h)
 
-    pub misaligned : (n : ℕ) → i < n → t ≡ test.Misaligned → access.Misaligned i ≡ tested size origin end chosen address n
-    unfolding testStep
-    misaligned n h e = settles (testStep size origin end chosen address) (access.Misaligned i) access.Done (i + 1) n (omega arith) (λ j _ _. refl) (rw e at turn)
+-- the test of an element that is operated on, after those of the elements below it
+unfoldable pub testAt : ℕ → ℕ → ℕ → (ℕ → ℕ) → ℕ → Access → Access
+testAt size origin end address i a = orElse a (saying i (testOf size origin end (address i)))
 
-    pub outside : (n : ℕ) → i < n → t ≡ test.Outside → access.OutsideWindow i ≡ tested size origin end chosen address n
-    unfolding testStep
-    outside n h e = settles (testStep size origin end chosen address) (access.OutsideWindow i) access.Done (i + 1) n (omega arith) (λ j _ _. refl) (rw e at turn)
+module _ (size origin end : ℕ) (address : ℕ → ℕ) where
+  -- the ones of a set are the elements that are operated on
+  tests-ones : (which n : ℕ) → rising (ofOnes (testAt size origin end address) which) n access.Done ≡ tested size origin end (bit which) address n
+  unfolding ofOnes testAt testStep
+  tests-ones which n = alike _ _ n access.Done (λ i a _. either a i (bit which i))
+    where
+      either : (a : Access) (i : ℕ) (b : Bool) → pick b (orElse a (saying i (testOf size origin end (address i)))) a ≡ orElse a (saying i (verdict size origin end b (address i)))
+      either a i true = refl
+      either a i false = sym (or-done a)
+
+  -- what the test of element i says, where none was bad before
+  pub turn : (i : ℕ) (t u : Test) → t ≡ testOf size origin end (address i) → t ≡ u → saying i u ≡ testAt size origin end address i access.Done
+  unfolding testAt
+  turn i t u said e = ap (saying i) (sym e ∙ said)
+
+  module _ {which left : ℕ} where
+    pub no-more : Walk (testAt size origin end address) which 64 access.Done left access.Done → left ≡ 0 → access.Done ≡ tested size origin end (bit which) address 64
+    no-more w e = ends-walk w e ∙ tests-ones which 64
+
+    -- a bad element that was found stays
+    pub bad : (i : ℕ) (t : Test) → (t ≡ test.Misaligned) ⊎ (t ≡ test.Outside) → Walk (testAt size origin end address) which 64 access.Done left (saying i t) → saying i t ≡ tested size origin end (bit which) address 64
+    unfolding testAt
+    bad i t (inl e) w = stops-walk w (λ j. rw e) ∙ tests-ones which 64
+    bad i t (inr e) w = stops-walk w (λ j. rw e) ∙ tests-ones which 64
 
 -- the test of one element, by what its parts said
 module _ (size origin end address : ℕ) (straight : Bool) (said : straight ≡ eqb (address % size) 0) where
@@ -99,3 +131,22 @@ module _ (size origin end address : ℕ) (straight : Bool) (said : straight ≡ 
 pub size-small : (quadword : Bool) (n : ℕ) → n ≡ sizeOf quadword → n ≤ 8
 size-small true n e = omega arith
 size-small false n e = omega arith
+
+pub size-some : (quadword : Bool) (n : ℕ) → n ≡ sizeOf quadword → 4 ≤ n
+size-some true n e = omega arith
+size-some false n e = omega arith
+
+-- an aligned address whose distance from the origin, modulo 2^32, leaves room for the element. A window ends at 2^32 at the latest, so that
+-- an address below the origin is further away than the window is long
+module _ (quadword : Bool) (origin bytes address : ℕ) (fits : origin + bytes ≤ 2 ^ 32) (straight : Bool) (said : straight ≡ eqb (address % sizeOf quadword) 0)
+    (offset : ℕ) (wraps : (offset + origin % 2 ^ 32) % 2 ^ 32 ≡ address) (room : ℕ) (sized : room ≡ bytes + 1 - sizeOf quadword) where
+  pub fine-by : (straight && ltb offset room) ≡ true → testOf (sizeOf quadword) origin (origin + bytes) address ≡ test.Fine
+  unfolding testOf
+  fine-by e =
+      let g : eqb (address % sizeOf quadword) 0 ≡ true = sym said ∙ and-left straight (ltb offset room) e in
+      let b : offset < room = ltb-true offset room (and-right straight (ltb offset room) e) in
+      let some = size-some quadword (sizeOf quadword) refl in
+      let near : address ≡ origin + offset = omega arith in
+      let k : leb origin address ≡ true = le-leb origin address (omega arith) in
+      let m : leb (address + sizeOf quadword) (origin + bytes) ≡ true = le-leb (address + sizeOf quadword) (origin + bytes) (omega arith) in
+      rw (g, k, m)

@@ -4,8 +4,8 @@ use state::Control;
 ghost use mathlib.Core.Path.{_≡_};
 ghost use Prim.Native.Nat.{_+_, _^_, _≤_, _<_};
 ghost use lib.ListN.{length, getD};
+ghost use Rattle.numbers.specs.Bits.{bit};
 ghost use Rattle.state.specs.State.{state};
-ghost use Rattle.memory.specs.Address.{chosenBy};
 ghost use Rattle.memory.specs.Move.{moved, movedBy, movedOf};
 
 mod addresses;
@@ -31,25 +31,22 @@ pub enum Access {
     OutsideWindow(u64),
 }
 
-// Tests every operated element below n, and moves them if all are fine.
+// Tests the elements of a set of numbers below n, and moves them if all are fine.
 fn all_or_none(
     elements: &mut [u64; 1024],
     window: &mut [u8],
     addresses: &[u32; 64],
     store: bool,
-    moe: bool,
-    mtf: bool,
-    vmr: u64,
+    which: u64,
     quadword: bool,
     origin: u64,
     vc: usize,
     n: usize,
 ) -> Access
-    requires { ⌜ (vc < 16) × (n ≤ 64) × (origin + length (now window) ≤ 2 ^ 32) ⌝ }
-    ensures { λ r. ⌜ moved r (now (elements .exit)) (now (window .exit)) ≡ movedBy store quadword origin vc (chosenBy moe mtf vmr) (λ k. getD (now (addresses .entry)) k 0) n (now (elements .entry)) (now (window .entry)) ⌝ }
+    requires { ⌜ (vc < 16) × (n ≤ 64) × (which < 2 ^ n) × (origin + length (now window) ≤ 2 ^ 32) ⌝ }
+    ensures { λ r. ⌜ moved r (now (elements .exit)) (now (window .exit)) ≡ movedBy store quadword origin vc (bit which) (λ k. getD (now (addresses .entry)) k 0) 64 (now (elements .entry)) (now (window .entry)) ⌝ }
 {
-    let end = origin + window.len() as u64;
-    let access = tests::tested(addresses, moe, mtf, vmr, quadword, origin, end, n);
+    let access = tests::tested(addresses, which, quadword, origin, window.len() as u64, n);
     let Access::Done = access else {
         return access;
     };
@@ -58,13 +55,10 @@ fn all_or_none(
         window,
         addresses,
         store,
-        moe,
-        mtf,
-        vmr,
+        which,
         quadword,
         origin,
         vc,
-        n,
     );
     Access::Done
 }
@@ -87,7 +81,15 @@ pub fn transfer(
     }
     let work = instruction.work;
     let n = control.vlr as usize;
-    let addresses = addresses::of_elements(
+    let which = numbers::bits::chosen_below(
+        instruction.moe,
+        instruction.mtf,
+        control.vmr,
+        control.vlr,
+    );
+    let mut addresses = [0u32; 64];
+    addresses::of_elements(
+        &mut addresses,
         elements,
         instruction.scalar,
         base,
@@ -100,9 +102,7 @@ pub fn transfer(
         window,
         &addresses,
         works::is_store(work),
-        instruction.moe,
-        instruction.mtf,
-        control.vmr,
+        which,
         works::is_quadword(work),
         origin,
         instruction.vc.0 as usize,

@@ -2,19 +2,14 @@
 use crate::Access;
 use crate::Test;
 ghost use mathlib.Core.Path.{_≡_};
-ghost use Prim.Native.Nat.{_≤_, _<_, _%_};
+ghost use mathlib.Core.Bool.{true};
+ghost use Prim.Native.Nat.{ℕ, _+_, _-_, _^_, _≤_, _<_, _%_};
 ghost use lib.ListN.{getD};
 ghost use lib.Dec.{eqb};
+ghost use Rattle.numbers.specs.Bits.{bit};
 ghost use Rattle.memory.specs.Works.{sizeOf};
-ghost use Rattle.memory.specs.Address.{chosenBy, testOf, tested as testedOf, verdict};
-
-// MOE is clear, or the element's mask bit is MTF.
-pub(crate) fn chosen(moe: bool, mtf: bool, vmr: u64, i: usize) -> bool
-    requires { ⌜ i < 64 ⌝ }
-    ensures { λ r. ⌜ r ≡ chosenBy moe mtf vmr i ⌝ }
-{
-    !moe | (((vmr >> i) % 2 == 1) == mtf)
-}
+ghost use Rattle.memory.specs.Address.{testOf, tested as testedOf};
+ghost use Rattle.memory.specs.declared.Test.the-variants.{Fine};
 
 // How many bytes an element moves.
 fn size(quadword: bool) -> u64
@@ -48,39 +43,14 @@ fn one(address: u32, quadword: bool, origin: u64, end: u64) -> Test
     Test::Outside
 }
 
-// The test of one element, if it is operated on.
-fn looked(chosen: bool, address: u32, quadword: bool, origin: u64, end: u64) -> Test
-    ensures { λ r. ⌜ r ≡ verdict (sizeOf quadword) origin end chosen address ⌝ }
+// The lowest bad element of a set.
+fn search(addresses: &[u32; 64], which: u64, quadword: bool, origin: u64, end: u64) -> Access
+    ensures { λ r. ⌜ r ≡ testedOf (sizeOf quadword) origin end (bit which) (λ i. getD (now (addresses .entry)) i 0) 64 ⌝ }
 {
-    if chosen {
-        return one(address, quadword, origin, end);
-    }
-    Test::Fine
-}
-
-// The lowest bad element.
-pub(crate) fn tested(
-    addresses: &[u32; 64],
-    moe: bool,
-    mtf: bool,
-    vmr: u64,
-    quadword: bool,
-    origin: u64,
-    end: u64,
-    n: usize,
-) -> Access
-    requires { ⌜ n ≤ 64 ⌝ }
-    ensures { λ r. ⌜ r ≡ testedOf (sizeOf quadword) origin end (chosenBy moe mtf vmr) (λ i. getD (now (addresses .entry)) i 0) n ⌝ }
-{
-    let mut i: usize = 0;
-    while i < n {
-        let test = looked(
-            chosen(moe, mtf, vmr, i),
-            addresses[i],
-            quadword,
-            origin,
-            end,
-        );
+    let mut left = which;
+    while left != 0 {
+        let i = numbers::bits::lowest(left);
+        let test = one(addresses[i], quadword, origin, end);
         match test {
             Test::Fine => {}
             Test::Misaligned => {
@@ -90,7 +60,60 @@ pub(crate) fn tested(
                 return Access::OutsideWindow(i as u64);
             }
         }
-        i += 1;
+        left = numbers::bits::without_lowest(left);
     }
     Access::Done
+}
+
+// How many places of a window an element may begin at.
+fn room(bytes: u64, quadword: bool) -> u32
+    requires { ⌜ bytes ≤ 2 ^ 32 ⌝ }
+    ensures { λ r. ⌜ r ≡ bytes + 1 - sizeOf quadword ⌝ }
+{
+    let size = size(quadword);
+    if bytes < size {
+        return 0;
+    }
+    (bytes - size + 1) as u32
+}
+
+// An element is fine, by tests of 32 bits and no branch, several of which the machine does at once.
+fn fine(address: u32, quadword: bool, origin: u64, bytes: u64) -> bool
+    requires { ⌜ origin + bytes ≤ 2 ^ 32 ⌝ }
+    ensures { λ r. ⌜ (r ≡ true → testOf (sizeOf quadword) origin (origin + bytes) address ≡ Fine) ⌝ }
+{
+    let offset = std::num::wrapping_sub_u32(address, (origin % 4294967296) as u32);
+    aligned(address, quadword) & (offset < room(bytes, quadword))
+}
+
+// All elements below n are fine, operated on or not.
+fn all_fine(addresses: &[u32; 64], quadword: bool, origin: u64, bytes: u64, n: usize) -> bool
+    requires { ⌜ (n ≤ 64) × (origin + bytes ≤ 2 ^ 32) ⌝ }
+    ensures { λ r. ⌜ (r ≡ true → (i : ℕ) → i < n → testOf (sizeOf quadword) origin (origin + bytes) (getD (now (addresses .entry)) i 0) ≡ Fine) ⌝ }
+{
+    let mut all = true;
+    let mut i: usize = 0;
+    while i < n {
+        all = all & fine(addresses[i], quadword, origin, bytes);
+        i += 1;
+    }
+    all
+}
+
+// The lowest bad element of a set of numbers below n. That there is none is told fast as a rule; else each is looked at.
+pub(crate) fn tested(
+    addresses: &[u32; 64],
+    which: u64,
+    quadword: bool,
+    origin: u64,
+    bytes: u64,
+    n: usize,
+) -> Access
+    requires { ⌜ (n ≤ 64) × (which < 2 ^ n) × (origin + bytes ≤ 2 ^ 32) ⌝ }
+    ensures { λ r. ⌜ r ≡ testedOf (sizeOf quadword) origin (origin + bytes) (bit which) (λ i. getD (now (addresses .entry)) i 0) 64 ⌝ }
+{
+    if all_fine(addresses, quadword, origin, bytes, n) {
+        return Access::Done;
+    }
+    search(addresses, which, quadword, origin, origin + bytes)
 }

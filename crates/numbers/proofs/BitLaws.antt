@@ -1,7 +1,7 @@
 -- Bits as places: what a replaced bit leaves of the others, over any width. A bit's digit is `x / 2 ^ i % 2`, as `bit` and `withoutBit` have it.
 -- Assumes nothing.
 use mathlib.Core.Path.{_≡_, refl, sym, ap, ap₂, _∙_, subst}
-use mathlib.Core.Bool.{Bool, not, _&&_}
+use mathlib.Core.Bool.{Bool, false, not, _&&_}
 use mathlib.Core.Logic.{⊎-elim}
 use Prim.Native.Nat.{ℕ, zero, suc, _+_, _-_, _*_, _/_, _%_, _^_, _≤_, _<_, max}
 use native.Mathlib.Nat.{le-trans, lt-of-lt-of-le, div-eq-of-lt, mod-lt, mod-le, mul-le-mul-right, div-mul-le-self, add-mul, pow-suc, one-mul, div-add-mod', div-lt-iff-lt-mul, mod-one, div-one, zero-div, add-comm}
@@ -115,12 +115,16 @@ bit-is x i d e = ap (λ (n : ℕ). eqb n 1) e
 
 -- ---- the n lowest bits, and the ones among them
 
+-- a number has no ones beyond its width
+pub bit-above : (x n i : ℕ) → x < 2 ^ n → n ≤ i → bit x i ≡ false
+bit-above x n i small h = bit-is x i 0 (ap (λ (m : ℕ). m % 2) (div-eq-of-lt (lt-of-lt-of-le small (pow-mono h))))
+
 -- a bit of them is one of those below n
 pub bit-below : (x n i : ℕ) → bit (lowBits x n) i ≡ (ltb i n && bit x i)
 bit-below x n i =
     ⊎-elim
     (λ (h : i < n). bit-is (lowBits x n) i _ (digit-mod x n i h) ∙ ap (λ (t : Bool). t && bit x i) (sym (lt-ltb i n h)))
-    (λ (h : n ≤ i). bit-is (lowBits x n) i 0 (ap (λ (m : ℕ). m % 2) (div-eq-of-lt (lt-of-lt-of-le (mod-lt x (pow-pos n)) (pow-mono h)))) ∙ ap (λ (t : Bool). t && bit x i) (sym (le-ltb i n h)))
+    (λ (h : n ≤ i). bit-above (lowBits x n) n i (mod-lt x (pow-pos n)) h ∙ ap (λ (t : Bool). t && bit x i) (sym (le-ltb i n h)))
     (below-or-not i n)
 
 pub one-shifted : (n w : ℕ) → n < w → 1 * 2 ^ n % 2 ^ w ≡ 2 ^ n

@@ -53,3 +53,7 @@ pub carries : {A B : Type 0} (J : A → B) (f : ℕ → A → A) (g : ℕ → B 
 unfolding rising
 carries J f g zero a h = refl
 carries J f g (suc n) a h = h n (rising f n a) (omega arith) ∙ ap (g n) (carries J f g n a (λ i x k. h i x (omega arith)))
+
+-- steps that are alike below n, and of which those from n on do nothing
+pub cut : {A : Type 0} (f g : ℕ → A → A) (n m : ℕ) (a : A) → n ≤ m → ((i : ℕ) (x : A) → i < n → f i x ≡ g i x) → ((i : ℕ) (x : A) → n ≤ i → f i x ≡ x) → rising f m a ≡ rising g n a
+cut f g n m a h like idle = sym (settles f (rising f n a) a n m h (λ j k _. idle j (rising f n a) k) refl) ∙ alike f g n a like

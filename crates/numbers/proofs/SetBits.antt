@@ -3,7 +3,7 @@ use mathlib.Core.Path.{_≡_, refl, sym, ap, ap₂, _∙_, subst}
 use mathlib.Core.Bool.{Bool, true, false, not, _&&_, Bool·beq}
 use mathlib.Core.Logic.{_⊎_, inl, inr, ⊎-elim}
 use Prim.Native.Nat.{ℕ, zero, suc, _+_, _-_, _*_, _/_, _%_, _^_, _≤_, _<_, min}
-use native.Mathlib.Nat.{pow-suc, one-mul, zero-div, mod-lt, div-eq-of-lt, lt-of-lt-of-le}
+use native.Mathlib.Nat.{pow-suc, one-mul, zero-div, mod-lt, lt-of-lt-of-le}
 use native.Mathlib.Omega.{arith}
 use lib.Bits.{bitAnd, and-step, and-self}
 use lib.Count.{trailingZeros, under, trailing-of-zero}
@@ -13,7 +13,7 @@ use borrow.Author.Tests.{lt-ltb, le-ltb}
 use Rattle.numbers.specs.Bits.{bit, withoutBit, withBit, lowBits, complement, lowestOne, chosen, OnesBelow}
 use Rattle.numbers.specs.Choice.{pick}
 use Rattle.numbers.specs.Rising.{rising, ofOnes}
-use Rattle.numbers.proofs.BitLaws.{digit, digit-zero, digit-suc, bit-is, bit-below, bit-complement, bit-replaced, bit-kept, decEq}
+use Rattle.numbers.proofs.BitLaws.{digit, digit-zero, digit-suc, bit-is, bit-above, bit-below, bit-complement, bit-replaced, bit-kept, decEq}
 use Rattle.numbers.proofs.Rising.{starts, settles, alike, grows, carries}
 use Rattle.numbers.proofs.Tests.{true-not-false, below-or-not, pick-true, pick-false}
 
@@ -82,10 +82,7 @@ module _ (x i : ℕ) (h : Lowest x i) where
 
   -- the lowest one is below any bound on the ones
   inside : (n : ℕ) → x < 2 ^ n → i < n
-  inside n small = ⊎-elim (λ (g : i < n). g) (λ (g : n ≤ i). absurd (high (h .one) (lt-of-lt-of-le small (pow-mono g)))) (below-or-not i n)
-    where
-      high : digit x i ≡ 1 → x < 2 ^ i → ⊥
-      high e g = let z : x / 2 ^ i ≡ 0 = div-eq-of-lt g in omega arith
+  inside n small = ⊎-elim (λ (g : i < n). g) (λ (g : n ≤ i). absurd (true-not-false (sym (bit-above x n i small g) ∙ bit-is x i 1 (h .one)))) (below-or-not i n)
 
 -- a bit turned to zero, and the others
 module _ (x i : ℕ) where
@@ -173,20 +170,29 @@ pub record Walk {A : Type 0} (f : ℕ → A → A) (which n : ℕ) (a₀ : A) (l
   pub small : left < 2 ^ n
   pub leads : rising (ofOnes f left) n a ≡ rising (ofOnes f which) n a₀
 
-module _ {A : Type 0} (f : ℕ → A → A) (which n : ℕ) (a₀ : A) where
+module _ {A : Type 0} {f : ℕ → A → A} {which n : ℕ} {a₀ : A} where
   pub starts-walk : which < 2 ^ n → Walk f which n a₀ which a₀
   starts-walk h = record { among = λ i e. e; small = h; leads = refl }
 
-  module _ (left : ℕ) (a : A) (w : Walk f which n a₀ left a) where
+  module _ {left : ℕ} {a : A} (w : Walk f which n a₀ left a) where
+    -- what no step changes is the end
+    pub stops-walk : ((j : ℕ) → f j a ≡ a) → a ≡ rising (ofOnes f which) n a₀
+    unfolding ofOnes
+    stops-walk s = settles (ofOnes f left) a a 0 n (omega arith) (λ j _ _. either j (bit left j)) (starts (ofOnes f left) a) ∙ w .leads
+      where
+        either : (j : ℕ) (b : Bool) → pick b (f j a) a ≡ a
+        either j true = s j
+        either j false = refl
+
     pub ends-walk : left ≡ 0 → a ≡ rising (ofOnes f which) n a₀
     ends-walk e =
         settles (ofOnes f left) a a 0 n (omega arith) (λ j _ _. no-step f left j a (ap (λ (x : ℕ). bit x j) e ∙ no-bit j)) (starts (ofOnes f left) a)
         ∙ w .leads
 
     -- one turn, at the lowest one
-    module _ (some : 0 < left) (narrow : left < 2 ^ 64) (i : ℕ) (at : i ≡ lowestOne left) where
+    module _ (short : n ≤ 64) (some : left ≡ 0 → ⊥) {i : ℕ} (at : i ≡ lowestOne left) where
       is-lowest : Lowest left i
-      is-lowest = subst (Lowest left) (sym at) (lowest 64 left some narrow)
+      is-lowest = subst (Lowest left) (sym at) (lowest 64 left (omega arith) (lt-of-lt-of-le (w .small) (pow-mono short)))
 
       pub index-below : i < n
       index-below = inside left i is-lowest n (w .small)
@@ -194,16 +200,16 @@ module _ {A : Type 0} (f : ℕ → A → A) (which n : ℕ) (a₀ : A) where
       pub index-one : bit which i ≡ true
       index-one = w .among i (bit-is left i 1 (is-lowest .one))
 
-      module _ (rest : ℕ) (others : rest ≡ withoutBit left (lowestOne left)) where
+      module _ {rest : ℕ} (others : rest ≡ withoutBit left (lowestOne left)) where
         is-rest : withoutBit left i ≡ rest
         is-rest = ap (withoutBit left) at ∙ sym others
 
         -- the measure of the loop
         pub less-left : rest < left
-        less-left = let g = less left i is-lowest some in let e = is-rest in omega arith
+        less-left = let g = less left i is-lowest (omega arith) in let e = is-rest in omega arith
 
-        pub turns-walk : (b : A) → b ≡ f i a → Walk f which n a₀ rest b
-        turns-walk b e = record {
+        pub turns-walk : {b : A} → b ≡ f i a → Walk f which n a₀ rest b
+        turns-walk {b} e = record {
           among = λ j g. still j g (decEq j i);
           small = let g = less-left in let h = w .small in omega arith;
           leads = ap₂ (λ (x : ℕ) (y : A). rising (ofOnes f x) n y) (sym is-rest) e ∙ sym (first f left i is-lowest a n index-below) ∙ w .leads;

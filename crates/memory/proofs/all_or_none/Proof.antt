@@ -1,14 +1,11 @@
 -- `all_or_none` meets its contract: a bad element leaves all as it was, else every operated element is moved. Assumes nothing.
 use Prim.Native.Nat.{ℕ}
 use lib.ListN.{getD}
-use Rattle.memory.specs.Address.{chosenBy}
+use Rattle.numbers.specs.Bits.{bit}
 use Rattle.memory.proofs.Accessing.{none, every, lie-within}
 use borrow.Author.Needs.{needs}
 use Rattle.memory.proofs.all_or_none.Statement.{statement}
 use Rattle.memory.proofs.all_or_none.Tie as tie
-
-add-end : tie.Need-add-end
-add-end c = search needs
 
 tested-requires : tie.Need-tested-requires
 tested-requires c κs = search needs
@@ -19,15 +16,14 @@ enum-told c = search needs
 returns : tie.Need-returns
 returns c =
     let args = c .before .before .before .args in
-    none (args .store) (args .quadword) (args .origin) (args .vc) (chosenBy (args .moe) (args .mtf) (args .vmr)) (λ (k : ℕ). getD (args .addresses .now) k 0) (args .n)
+    none (args .store) (args .quadword) (args .origin) (args .vc) (bit (args .which)) (λ (k : ℕ). getD (args .addresses .now) k 0) 64
     (args .elements .now) (args .window .now) _ (c .before .tested .ensures) (c .match .keys2)
 
 all-requires : tie.Need-all-requires
 all-requires c κs =
     let args = c .before .before .before .before .before .before .args in (
       search needs,
-      search needs,
-      lie-within (args .store) (args .quadword) (args .origin) (args .vc) (chosenBy (args .moe) (args .mtf) (args .vmr)) (λ (k : ℕ). getD (args .addresses .now) k 0) (args .n)
+      lie-within (args .store) (args .quadword) (args .origin) (args .vc) (bit (args .which)) (λ (k : ℕ). getD (args .addresses .now) k 0) 64
           (args .elements .now) (args .window .now) _ (c .before .before .before .before .tested .ensures) (c .before .before .enum-told .given .1),
     )
 
@@ -37,10 +33,9 @@ same-length c = search needs
 returns-2 : tie.Need-returns-2
 returns-2 c =
     let args = c .before .before .before .before .before .before .before .before .before .args in
-    every (args .store) (args .quadword) (args .origin) (args .vc) (chosenBy (args .moe) (args .mtf) (args .vmr)) (λ (k : ℕ). getD (args .addresses .now) k 0) (args .n)
+    every (args .store) (args .quadword) (args .origin) (args .vc) (bit (args .which)) (λ (k : ℕ). getD (args .addresses .now) k 0) 64
     (args .elements .now) (args .window .now) _ (c .before .before .before .before .before .before .before .tested .ensures) _ _ (c .before .before .before .before .before .enum-told .given .1) (c .before .before .all .ensures)
 
 pub all-or-none-spec : {M : Type 1} → statement M
 all-or-none-spec =
-    tie.close
-    (tie.spec add-end tested-requires enum-told returns all-requires same-length returns-2)
+    tie.close (tie.spec tested-requires enum-told returns all-requires same-length returns-2)

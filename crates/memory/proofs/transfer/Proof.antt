@@ -14,6 +14,9 @@ returns c =
     refused (state (args .elements .now) (args .control)) (args .instruction) (args .base) (args .stride) (args .window .now) (args .origin) _ (c .before .allowed .ensures)
     (c .if1 .taken)
 
+chosen-below-requires : tie.Need-chosen-below-requires
+chosen-below-requires c κs = search needs
+
 cast-of-elements : tie.Need-cast-of-elements
 cast-of-elements c = search needs
 
@@ -30,16 +33,16 @@ cast-all-or-none : tie.Need-cast-all-or-none
 cast-all-or-none c = search needs
 
 all-or-none-requires : tie.Need-all-or-none-requires
-all-or-none-requires c κs = (search needs, search needs, search (ends-in-time, needs))
+all-or-none-requires c κs = (search needs, search needs, c .before .before .before .before .before .before .before .before .before .before .chosen-below .ensures .small, search (ends-in-time, needs))
 
 same-length : tie.Need-same-length
 same-length c = search needs
 
 returns-2 : tie.Need-returns-2
 returns-2 c =
-    let args = c .before .before .before .before .before .before .before .before .before .before .before .before .before .before .before .args in
-    done (state (args .elements .now) (args .control)) (args .instruction) (args .base) (args .stride) (args .window .now) (args .origin) _ (c .before .before .before .before .before .before .before .before .before .before .before .before .before .allowed .ensures)
-    (c .before .before .before .before .before .before .before .before .before .before .before .before .if1 .left) (c .before .before .before .before .before .before .before .before .before .of-elements .result) (c .before .before .before .before .before .before .before .before .before .of-elements .ensures) _ _ (c .before .before .before .before .before .is-store .ensures) (c .before .before .before .before .is-quadword .ensures) _ (c .before .before .all-or-none .ensures)
+    let args = c .before .before .before .before .before .before .before .before .before .before .before .before .before .before .before .before .before .args in
+    done (state (args .elements .now) (args .control)) (args .instruction) (args .base) (args .stride) (args .window .now) (args .origin) _ (c .before .before .before .before .before .before .before .before .before .before .before .before .before .before .before .allowed .ensures)
+    (c .before .before .before .before .before .before .before .before .before .before .before .before .before .before .if1 .left) (c .before .before .before .before .before .before .before .before .before .of-elements .last .0) (c .before .before .before .before .before .before .before .before .before .of-elements .ensures) (c .before .before .before .before .before .before .before .before .before .before .before .before .before .before .before .before .before .pre .2) _ (c .before .before .before .before .before .before .before .before .before .before .before .before .before .chosen-below .ensures) _ _ (c .before .before .before .before .before .is-store .ensures) (c .before .before .before .before .is-quadword .ensures) _ (c .before .before .all-or-none .ensures)
 
 pub transfer-spec : {M : Type 1} → statement M
 transfer-spec =
@@ -47,6 +50,7 @@ transfer-spec =
     (tie.spec
     allowed-requires
     returns
+    chosen-below-requires
     cast-of-elements
     of-elements-requires
     is-store-requires

@@ -10,10 +10,10 @@ strided-requires : tie.Need-strided-requires
 strided-requires c κs = search needs
 
 returns : tie.Need-returns
-returns c = rw (c .before .if1 .taken) (c .offset .ensures)
+returns c = rw (c .before .before .if1 .taken) (c .offset .ensures)
 
 returns-2 : tie.Need-returns-2
-returns-2 c = rw (c .before .if1 .left) (c .strided .ensures)
+returns-2 c = rw (c .before .before .if1 .left) (c .strided .ensures)
 
 pub of-elements-spec : {M : Type 1} → statement M
 of-elements-spec = tie.close (tie.spec offset-requires strided-requires returns returns-2)

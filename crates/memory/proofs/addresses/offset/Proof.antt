@@ -1,22 +1,22 @@
 -- `offset` meets its contract: the places below i are filled. Assumes nothing.
 use Prim.Native.Nat.{ℕ, _+_, _%_, _^_, _≤_, _<_, _-_}
-use mathlib.Core.Path.{_≡_, refl, ap, _∙_}
+use mathlib.Core.Path.{_≡_, ap, _∙_}
 use native.Mathlib.Omega.{arith}
 use lib.ListN.{length, getD, length-set}
-use borrow.Author.Needs.{needs}
 use Rattle.memory.specs.Address.{offsetBy}
 use Rattle.memory.proofs.Filling.{fills}
+use borrow.Author.Needs.{needs}
 use Rattle.memory.proofs.addresses.offset.Statement.{statement}
 use Rattle.memory.proofs.addresses.offset.Tie as tie
 
 abbrev Inv-loop : tie.InvT-loop
-Inv-loop elements base vb n addresses₀ i₀ addresses i = (i ≤ n) × ((length addresses ≡ 64) × ((k : ℕ) → k < i → getD addresses k 0 ≡ offsetBy base elements vb k))
+Inv-loop addresses₀ elements base vb n i₀ addresses i = (i ≤ n) × ((length addresses ≡ 64) × ((k : ℕ) → k < i → getD addresses k 0 ≡ offsetBy base elements vb k))
 
 abbrev μ-loop : tie.MeasureT-loop
-μ-loop elements base vb n addresses₀ i₀ addresses i = n - i
+μ-loop addresses₀ elements base vb n i₀ addresses i = n - i
 
 loop-holds : tie.Need-loop-holds Inv-loop μ-loop
-loop-holds c = (search needs, (refl, λ k h. absurd (omega arith)))
+loop-holds c = (search needs, (search needs, λ k h. absurd (omega arith)))
 
 mul-low : tie.Need-mul-low Inv-loop μ-loop
 mul-low c = omega arith
@@ -42,8 +42,8 @@ wrapping-add-u32-requires c κs = search needs
 mul-addresses : tie.Need-mul-addresses Inv-loop μ-loop
 mul-addresses c = omega arith
 
-array-write-addresses : tie.Need-array-write-addresses Inv-loop μ-loop
-array-write-addresses c = omega arith
+element-write-addresses : tie.Need-element-write-addresses Inv-loop μ-loop
+element-write-addresses c = omega arith
 
 add-i : tie.Need-add-i Inv-loop μ-loop
 add-i c = omega arith
@@ -52,8 +52,7 @@ loop-less : tie.Need-loop-less Inv-loop μ-loop
 loop-less c = omega arith
 
 loop-again : tie.Need-loop-again Inv-loop μ-loop
-loop-again c =
-    let loop = c .before .before .before .before .loop in
+loop-again c = let loop = c .before .before .before .before .loop in
     let args = c .before .before .before .before .before .args in (
       omega arith,
       (
@@ -81,7 +80,7 @@ offset-spec =
     cast-wrapping-add-u32
     wrapping-add-u32-requires
     mul-addresses
-    array-write-addresses
+    element-write-addresses
     add-i
     loop-less
     loop-again

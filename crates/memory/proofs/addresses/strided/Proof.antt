@@ -1,28 +1,28 @@
 -- `strided` meets its contract: the places below i are filled, and the next address is at hand. Assumes nothing.
-use mathlib.Core.Path.{_≡_, refl}
+use mathlib.Core.Path.{_≡_}
 use Prim.Native.Nat.{ℕ, _≤_, _<_, _-_}
 use native.Mathlib.Omega.{arith}
 use lib.ListN.{length, getD, length-set}
-use borrow.Author.Needs.{needs}
 use Rattle.memory.specs.Address.{strided as stridedOf}
 use Rattle.memory.proofs.Filling.{fills, strides, first}
+use borrow.Author.Needs.{needs}
 use Rattle.memory.proofs.addresses.strided.Statement.{statement}
 use Rattle.memory.proofs.addresses.strided.Tie as tie
 
 abbrev Inv-loop : tie.InvT-loop
-Inv-loop base stride n addresses₀ address₀ i₀ addresses address i = (i ≤ n) × ((address ≡ stridedOf base stride i) × ((length addresses ≡ 64) × ((k : ℕ) → k < i → getD addresses k 0 ≡ stridedOf base stride k)))
+Inv-loop addresses₀ base stride n address₀ i₀ addresses address i = (i ≤ n) × ((address ≡ stridedOf base stride i) × ((length addresses ≡ 64) × ((k : ℕ) → k < i → getD addresses k 0 ≡ stridedOf base stride k)))
 
 abbrev μ-loop : tie.MeasureT-loop
-μ-loop base stride n addresses₀ address₀ i₀ addresses address i = n - i
+μ-loop addresses₀ base stride n address₀ i₀ addresses address i = n - i
 
 loop-holds : tie.Need-loop-holds Inv-loop μ-loop
-loop-holds c = (search needs, (search (first, needs), (refl, λ k h. absurd (omega arith))))
+loop-holds c = (search needs, (search (first, needs), (search needs, λ k h. absurd (omega arith))))
 
 mul-addresses : tie.Need-mul-addresses Inv-loop μ-loop
 mul-addresses c = omega arith
 
-array-write-addresses : tie.Need-array-write-addresses Inv-loop μ-loop
-array-write-addresses c = omega arith
+element-write-addresses : tie.Need-element-write-addresses Inv-loop μ-loop
+element-write-addresses c = omega arith
 
 wrapping-add-u32-requires : tie.Need-wrapping-add-u32-requires Inv-loop μ-loop
 wrapping-add-u32-requires c κs = search needs
@@ -34,8 +34,7 @@ loop-less : tie.Need-loop-less Inv-loop μ-loop
 loop-less c = omega arith
 
 loop-again : tie.Need-loop-again Inv-loop μ-loop
-loop-again c =
-    let loop = c .before .before .loop in
+loop-again c = let loop = c .before .before .loop in
     let args = c .before .before .before .args in (
       omega arith,
       (
@@ -58,7 +57,7 @@ strided-spec =
     μ-loop
     loop-holds
     mul-addresses
-    array-write-addresses
+    element-write-addresses
     wrapping-add-u32-requires
     add-i
     loop-less

@@ -1,41 +1,62 @@
--- `load` meets its contract: the elements below i are loaded. Assumes nothing.
-use mathlib.Core.Path.{_≡_}
-use Prim.Native.Nat.{ℕ, _≤_, _-_}
+-- `load` meets its contract: the elements of the set that are left are still to be loaded. Assumes nothing.
+use mathlib.Core.Path.{_∙_}
+use Prim.Native.Nat.{ℕ}
 use native.Mathlib.Omega.{arith}
 use lib.ListN.{getD}
+use Rattle.numbers.proofs.SetBits.{Walk, starts-walk, index-below, index-one, less-left, turns-walk, ends-walk}
+use Rattle.memory.proofs.Moving.{loadAt, loads-ones}
 use borrow.Author.Needs.{needs}
-use Rattle.numbers.specs.Rising.{rising}
-use Rattle.memory.specs.Address.{chosenBy}
-use Rattle.memory.specs.Move.{loadStep}
-use Rattle.numbers.proofs.Rising.{starts, turns, ends}
+use Rattle.numbers.proofs.SetBits.{Walk, starts-walk, index-below, index-one, less-left, turns-walk, ends-walk}
+use Rattle.memory.proofs.Moving.{loadAt}
 use Rattle.memory.proofs.loads.load.Statement.{statement}
 use Rattle.memory.proofs.loads.load.Tie as tie
 
 abbrev Inv-loop : tie.InvT-loop
-Inv-loop elements₀ window addresses moe mtf vmr quadword origin vc n i₀ elements i = (i ≤ n) × (elements ≡ rising (loadStep quadword origin vc (chosenBy moe mtf vmr) (λ (k : ℕ). getD addresses k 0) window) i elements₀)
+Inv-loop elements₀ window addresses which quadword origin vc left₀ elements left = Walk (loadAt quadword origin vc (λ (k : ℕ). getD addresses k 0) window) which 64 elements₀ left elements
 
 abbrev μ-loop : tie.MeasureT-loop
-μ-loop elements₀ window addresses moe mtf vmr quadword origin vc n i₀ elements i = n - i
+μ-loop elements₀ window addresses which quadword origin vc left₀ elements left = left
 
 loop-holds : tie.Need-loop-holds Inv-loop μ-loop
-loop-holds c = (search needs, starts _ _)
+loop-holds c = search (starts-walk, needs)
 
-load-step-requires : tie.Need-load-step-requires Inv-loop μ-loop
-load-step-requires c κs = (search needs, omega arith, λ e. c .before .before .before .before .pre .2 _ (c .before .loop-test .taken) e)
+lowest-requires : tie.Need-lowest-requires Inv-loop μ-loop
+lowest-requires c κs = search needs
 
-add-i : tie.Need-add-i Inv-loop μ-loop
-add-i c = omega arith
+mul-load-one : tie.Need-mul-load-one Inv-loop μ-loop
+mul-load-one c = record { fits = omega (arith, index-below (c .before .before .before .loop .inv) (omega arith) (c .before .before .loop-test .taken) (c .before .lowest .ensures)) }
+
+element-copy-out-load-one : tie.Need-element-copy-out-load-one Inv-loop μ-loop
+element-copy-out-load-one c = index-below (c .before .before .before .loop .inv) (omega arith) (c .before .before .loop-test .taken) (c .before .lowest .ensures)
+
+load-one-requires : tie.Need-load-one-requires Inv-loop μ-loop
+load-one-requires c κs = (search needs, index-below (c .before .before .before .before .loop .inv) (omega arith) (c .before .before .before .loop-test .taken) (c .before .before .lowest .ensures), c .before .before .before .before .before .before .pre .1 _ (index-below (c .before .before .before .before .loop .inv) (omega arith) (c .before .before .before .loop-test .taken) (c .before .before .lowest .ensures)) (index-one (c .before .before .before .before .loop .inv) (omega arith) (c .before .before .before .loop-test .taken) (c .before .before .lowest .ensures)))
+
+without-lowest-requires : tie.Need-without-lowest-requires Inv-loop μ-loop
+without-lowest-requires c κs = search needs
 
 loop-less : tie.Need-loop-less Inv-loop μ-loop
-loop-less c = omega arith
+loop-less c = less-left (c .before .before .before .before .before .before .loop .inv) (omega arith) (c .before .before .before .before .before .loop-test .taken) (c .before .before .before .before .lowest .ensures) (c .without-lowest .ensures)
 
 loop-again : tie.Need-loop-again Inv-loop μ-loop
-loop-again c = (omega arith, search (turns, needs))
+unfolding loadAt
+loop-again c = turns-walk (c .before .before .before .before .before .before .loop .inv) (omega arith) (c .before .before .before .before .before .loop-test .taken) (c .before .before .before .before .lowest .ensures) (c .without-lowest .ensures) (c .before .load-one .ensures)
 
 returns : tie.Need-returns Inv-loop μ-loop
-returns c = search (ends, needs)
+returns c = ends-walk (c .before .loop .inv) (c .loop-test .left) ∙ loads-ones _ _ _ _ _ _ _ _
 
 pub load-spec : {M : Type 1} → statement M
 load-spec =
     tie.close
-    (tie.spec Inv-loop μ-loop loop-holds load-step-requires add-i loop-less loop-again returns)
+    (tie.spec
+    Inv-loop
+    μ-loop
+    loop-holds
+    lowest-requires
+    mul-load-one
+    element-copy-out-load-one
+    load-one-requires
+    without-lowest-requires
+    loop-less
+    loop-again
+    returns)

@@ -3,6 +3,9 @@ use borrow.Author.Needs.{needs}
 use Rattle.memory.proofs.loads.load_one.Statement.{statement}
 use Rattle.memory.proofs.loads.load_one.Tie as tie
 
+offset-of-requires : tie.Need-offset-of-requires
+offset-of-requires c κs = search needs
+
 mul-to : tie.Need-mul-to
 mul-to c = search needs
 
@@ -25,12 +28,13 @@ element-write-elements : tie.Need-element-write-elements
 element-write-elements c = search needs
 
 returns : tie.Need-returns
-returns c = rw (c .fetched .ensures)
+returns c = rw (c .fetched .ensures, c .before .before .offset-of .ensures)
 
 pub load-one-spec : {M : Type 1} → statement M
 load-one-spec =
     tie.close
     (tie.spec
+    offset-of-requires
     mul-to
     add-to
     mul-fetched

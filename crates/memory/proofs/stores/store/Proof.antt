@@ -1,42 +1,62 @@
--- `store` meets its contract: the elements below i are stored. Assumes nothing.
-use mathlib.Core.Path.{_≡_, refl}
-use Prim.Native.Nat.{ℕ, _≤_, _-_}
+-- `store` meets its contract: the elements of the set that are left are still to be stored. Assumes nothing.
+use mathlib.Core.Path.{_≡_, refl, _∙_}
+use Prim.Native.Nat.{ℕ}
 use native.Mathlib.Omega.{arith}
 use lib.ListN.{length, getD}
+use Rattle.numbers.proofs.SetBits.{Walk, starts-walk, index-below, index-one, less-left, turns-walk, ends-walk}
+use Rattle.memory.proofs.Moving.{storeAt, stores-ones}
 use borrow.Author.Needs.{needs}
-use Rattle.numbers.specs.Rising.{rising}
-use Rattle.memory.specs.Address.{chosenBy}
-use Rattle.memory.specs.Move.{storeStep}
-use Rattle.numbers.proofs.Rising.{starts, turns, ends}
 use Rattle.memory.proofs.stores.store.Statement.{statement}
 use Rattle.memory.proofs.stores.store.Tie as tie
 
 abbrev Inv-loop : tie.InvT-loop
-Inv-loop window₀ elements addresses moe mtf vmr quadword origin vc n i₀ window i = (i ≤ n) × ((window ≡ rising (storeStep quadword origin vc (chosenBy moe mtf vmr) (λ (k : ℕ). getD addresses k 0) elements) i window₀) × (length window ≡ length window₀))
+Inv-loop window₀ elements addresses which quadword origin vc left₀ window left = Walk (storeAt quadword origin vc (λ (k : ℕ). getD addresses k 0) elements) which 64 window₀ left window × (length window ≡ length window₀)
 
 abbrev μ-loop : tie.MeasureT-loop
-μ-loop window₀ elements addresses moe mtf vmr quadword origin vc n i₀ window i = n - i
+μ-loop window₀ elements addresses which quadword origin vc left₀ window left = left
 
 loop-holds : tie.Need-loop-holds Inv-loop μ-loop
-loop-holds c = (search needs, (starts _ _, refl))
+loop-holds c = (search (starts-walk, needs), refl)
 
-store-step-requires : tie.Need-store-step-requires Inv-loop μ-loop
-store-step-requires c κs = (search needs, omega arith, λ e. let h = c .before .before .before .before .pre .2 _ (c .before .loop-test .taken) e in omega arith)
+lowest-requires : tie.Need-lowest-requires Inv-loop μ-loop
+lowest-requires c κs = search needs
 
-add-i : tie.Need-add-i Inv-loop μ-loop
-add-i c = omega arith
+mul-v : tie.Need-mul-v Inv-loop μ-loop
+mul-v c = search needs
+
+add-v : tie.Need-add-v Inv-loop μ-loop
+add-v c = record { fits = omega (arith, index-below (c .before .before .loop .inv .0) (omega arith) (c .before .loop-test .taken) (c .lowest .ensures)) }
+
+mul-v-2 : tie.Need-mul-v-2 Inv-loop μ-loop
+mul-v-2 c = record { fits = omega (arith, index-below (c .before .before .loop .inv .0) (omega arith) (c .before .loop-test .taken) (c .lowest .ensures)) }
+
+element-copy-out-v : tie.Need-element-copy-out-v Inv-loop μ-loop
+element-copy-out-v c = omega (arith, index-below (c .before .before .loop .inv .0) (omega arith) (c .before .loop-test .taken) (c .lowest .ensures))
+
+mul-store-one : tie.Need-mul-store-one Inv-loop μ-loop
+mul-store-one c = record { fits = omega (arith, index-below (c .before .before .before .before .loop .inv .0) (omega arith) (c .before .before .before .loop-test .taken) (c .before .before .lowest .ensures)) }
+
+element-copy-out-store-one : tie.Need-element-copy-out-store-one Inv-loop μ-loop
+element-copy-out-store-one c = index-below (c .before .before .before .before .loop .inv .0) (omega arith) (c .before .before .before .loop-test .taken) (c .before .before .lowest .ensures)
+
+store-one-requires : tie.Need-store-one-requires Inv-loop μ-loop
+store-one-requires c κs = let h = c .before .before .before .before .before .before .before .pre .1 _ (index-below (c .before .before .before .before .before .loop .inv .0) (omega arith) (c .before .before .before .before .loop-test .taken) (c .before .before .before .lowest .ensures)) (index-one (c .before .before .before .before .before .loop .inv .0) (omega arith) (c .before .before .before .before .loop-test .taken) (c .before .before .before .lowest .ensures)) in omega arith
+
+without-lowest-requires : tie.Need-without-lowest-requires Inv-loop μ-loop
+without-lowest-requires c κs = search needs
 
 loop-less : tie.Need-loop-less Inv-loop μ-loop
-loop-less c = omega arith
+loop-less c = less-left (c .before .before .before .before .before .before .before .before .before .loop .inv .0) (omega arith) (c .before .before .before .before .before .before .before .before .loop-test .taken) (c .before .before .before .before .before .before .before .lowest .ensures) (c .without-lowest .ensures)
 
 loop-again : tie.Need-loop-again Inv-loop μ-loop
-loop-again c = (omega arith, (search (turns, needs), search needs))
+unfolding storeAt
+loop-again c = (turns-walk (c .before .before .before .before .before .before .before .before .before .loop .inv .0) (omega arith) (c .before .before .before .before .before .before .before .before .loop-test .taken) (c .before .before .before .before .before .before .before .lowest .ensures) (c .without-lowest .ensures) (c .before .before .before .store-one .ensures), search needs)
 
 same-length : tie.Need-same-length Inv-loop μ-loop
 same-length c = search needs
 
 returns : tie.Need-returns Inv-loop μ-loop
-returns c = search (ends, needs)
+returns c = ends-walk (c .before .loop .inv .0) (c .loop-test .left) ∙ stores-ones _ _ _ _ _ _ _ _
 
 pub store-spec : {M : Type 1} → statement M
 store-spec =
@@ -45,8 +65,15 @@ store-spec =
     Inv-loop
     μ-loop
     loop-holds
-    store-step-requires
-    add-i
+    lowest-requires
+    mul-v
+    add-v
+    mul-v-2
+    element-copy-out-v
+    mul-store-one
+    element-copy-out-store-one
+    store-one-requires
+    without-lowest-requires
     loop-less
     loop-again
     same-length

@@ -1,8 +1,11 @@
 -- `store_one` meets its contract. Assumes nothing.
-use Rattle.memory.proofs.Moving.{eight-fit, four-fit, quadword-put, longword-put}
+use Rattle.memory.proofs.Moving.{eight-within, four-within, quadword-put, longword-put}
 use borrow.Author.Needs.{needs}
 use Rattle.memory.proofs.stores.store_one.Statement.{statement}
 use Rattle.memory.proofs.stores.store_one.Tie as tie
+
+offset-of-requires : tie.Need-offset-of-requires
+offset-of-requires c κs = search needs
 
 add-end : tie.Need-add-end
 add-end c = search needs
@@ -14,7 +17,7 @@ part-put-quadword-start : tie.Need-part-put-quadword-start
 part-put-quadword-start c = search needs
 
 part-put-quadword-end : tie.Need-part-put-quadword-end
-part-put-quadword-end c = search (eight-fit, needs)
+part-put-quadword-end c = search (eight-within, needs)
 
 put-quadword-requires : tie.Need-put-quadword-requires
 put-quadword-requires c κs = search needs
@@ -35,7 +38,7 @@ part-put-longword-start : tie.Need-part-put-longword-start
 part-put-longword-start c = search needs
 
 part-put-longword-end : tie.Need-part-put-longword-end
-part-put-longword-end c = search (four-fit, needs)
+part-put-longword-end c = search (four-within, needs)
 
 put-longword-requires : tie.Need-put-longword-requires
 put-longword-requires c κs = search needs
@@ -50,6 +53,7 @@ pub store-one-spec : {M : Type 1} → statement M
 store-one-spec =
     tie.close
     (tie.spec
+    offset-of-requires
     add-end
     sub-put-quadword
     part-put-quadword-start
