@@ -17,7 +17,7 @@ use Rattle.memory.specs.declared.Access.{Access}
 use Rattle.memory.specs.declared.Access.the-variants as access
 use Rattle.numbers.specs.Rising.{rising, ofOnes}
 use Rattle.memory.specs.Works.{sizeOf}
-use Rattle.memory.specs.Address.{testOf, Within, verdict, saying, orElse, testStep, tested}
+use Rattle.memory.specs.Address.{found, testOf, Within, verdict, saying, orElse, testStep, tested}
 use Rattle.numbers.proofs.Rising.{starts, settles, alike}
 
 -- an element that is fine lies in the window
@@ -27,10 +27,10 @@ within size origin end address e =
     let h = picked (eqb (address % size) 0) (leb origin address && leb (address + size) end) e in
     (leb-true origin address (and-left (leb origin address) _ h), leb-true (address + size) end (and-right (leb origin address) _ h))
   where
-    picked : (a b : Bool) → pick a (pick b test.Fine test.Outside) test.Misaligned ≡ test.Fine → b ≡ true
-    picked true true e = refl
+    picked : (a b : Bool) → found a b ≡ test.Fine → b ≡ true
+    picked a true e = refl
     picked true false e = let z : _≡_ {A = ℕ} 0 1 = cc in absurd (omega arith)
-    picked false b e = let z : _≡_ {A = ℕ} 0 1 = cc in absurd (omega arith)
+    picked false false e = let z : _≡_ {A = ℕ} 0 1 = cc in absurd (omega arith)
 
 pub or-done : (a : Access) → orElse a access.Done ≡ a
 or-done access.Done = refl

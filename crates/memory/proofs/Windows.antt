@@ -11,7 +11,7 @@ use borrow.Rule.Slice.PartMut.{putMid}
 use Rattle.numbers.specs.Bytes.{bytesOf, numberOf}
 use Rattle.numbers.specs.Over.{over}
 use Rattle.numbers.proofs.LittleEndian.{bytes-length}
-use Rattle.numbers.proofs.Over.{part-over, length-over}
+use Rattle.numbers.proofs.Over.{part-over}
 use Rattle.numbers.proofs.Places.{valuesBelow, places}
 use Rattle.numbers.proofs.Tests.{and-right}
 use Rattle.memory.specs.Window.{allowed, putAt}
@@ -46,8 +46,3 @@ put size w part offset v e =
     let n : length (bytesOf size v) ≡ size = bytes-length size v in
     let k : length part ≡ offset + size - offset = ap length e ∙ omega arith in
     part-over w offset (offset + size) part (omega arith) k ∙ ap (λ (l : List ℕ). over w offset l) e
-
-pub put-length : (size : ℕ) (w : List ℕ) (offset v : ℕ) → offset + size ≤ length w → length (putAt size w offset v) ≡ length w
-put-length size w offset v h =
-    let n : length (bytesOf size v) ≡ size = bytes-length size v in
-    length-over w offset (bytesOf size v) (omega arith)

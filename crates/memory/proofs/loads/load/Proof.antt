@@ -6,8 +6,6 @@ use lib.ListN.{getD}
 use Rattle.numbers.proofs.SetBits.{Walk, starts-walk, index-below, index-one, less-left, turns-walk, ends-walk}
 use Rattle.memory.proofs.Moving.{loadAt, loads-ones}
 use borrow.Author.Needs.{needs}
-use Rattle.numbers.proofs.SetBits.{Walk, starts-walk, index-below, index-one, less-left, turns-walk, ends-walk}
-use Rattle.memory.proofs.Moving.{loadAt}
 use Rattle.memory.proofs.loads.load.Statement.{statement}
 use Rattle.memory.proofs.loads.load.Tie as tie
 
@@ -30,7 +28,10 @@ element-copy-out-load-one : tie.Need-element-copy-out-load-one Inv-loop μ-loop
 element-copy-out-load-one c = index-below (c .before .before .before .loop .inv) (omega arith) (c .before .before .loop-test .taken) (c .before .lowest .ensures)
 
 load-one-requires : tie.Need-load-one-requires Inv-loop μ-loop
-load-one-requires c κs = (search needs, index-below (c .before .before .before .before .loop .inv) (omega arith) (c .before .before .before .loop-test .taken) (c .before .before .lowest .ensures), c .before .before .before .before .before .before .pre .1 _ (index-below (c .before .before .before .before .loop .inv) (omega arith) (c .before .before .before .loop-test .taken) (c .before .before .lowest .ensures)) (index-one (c .before .before .before .before .loop .inv) (omega arith) (c .before .before .before .loop-test .taken) (c .before .before .lowest .ensures)))
+load-one-requires c κs =
+    let below = index-below (c .before .before .before .before .loop .inv) (omega arith) (c .before .before .before .loop-test .taken) (c .before .before .lowest .ensures) in
+    let one = index-one (c .before .before .before .before .loop .inv) (omega arith) (c .before .before .before .loop-test .taken) (c .before .before .lowest .ensures) in
+    (search needs, below, c .before .before .before .before .before .before .pre .1 _ below one)
 
 without-lowest-requires : tie.Need-without-lowest-requires Inv-loop μ-loop
 without-lowest-requires c κs = search needs

@@ -40,7 +40,11 @@ element-copy-out-store-one : tie.Need-element-copy-out-store-one Inv-loop μ-loo
 element-copy-out-store-one c = index-below (c .before .before .before .before .loop .inv .0) (omega arith) (c .before .before .before .loop-test .taken) (c .before .before .lowest .ensures)
 
 store-one-requires : tie.Need-store-one-requires Inv-loop μ-loop
-store-one-requires c κs = let h = c .before .before .before .before .before .before .before .pre .1 _ (index-below (c .before .before .before .before .before .loop .inv .0) (omega arith) (c .before .before .before .before .loop-test .taken) (c .before .before .before .lowest .ensures)) (index-one (c .before .before .before .before .before .loop .inv .0) (omega arith) (c .before .before .before .before .loop-test .taken) (c .before .before .before .lowest .ensures)) in omega arith
+store-one-requires c κs =
+    let below = index-below (c .before .before .before .before .before .loop .inv .0) (omega arith) (c .before .before .before .before .loop-test .taken) (c .before .before .before .lowest .ensures) in
+    let one = index-one (c .before .before .before .before .before .loop .inv .0) (omega arith) (c .before .before .before .before .loop-test .taken) (c .before .before .before .lowest .ensures) in
+    let h = c .before .before .before .before .before .before .before .pre .1 _ below one in
+    omega arith
 
 without-lowest-requires : tie.Need-without-lowest-requires Inv-loop μ-loop
 without-lowest-requires c κs = search needs
