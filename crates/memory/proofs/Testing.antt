@@ -99,13 +99,13 @@ module _ (size origin end : ℕ) (address : ℕ → ℕ) where
 
   module _ {which left : ℕ} where
     pub no-more : Walk (testAt size origin end address) which 64 access.Done left access.Done → left ≡ 0 → access.Done ≡ tested size origin end (bit which) address 64
-    no-more w e = ends-walk w e ∙ tests-ones which 64
+    no-more w e = ends-walk _ _ _ _ _ _ w e ∙ tests-ones which 64
 
     -- a bad element that was found stays
     pub bad : (i : ℕ) (t : Test) → (t ≡ test.Misaligned) ⊎ (t ≡ test.Outside) → Walk (testAt size origin end address) which 64 access.Done left (saying i t) → saying i t ≡ tested size origin end (bit which) address 64
     unfolding testAt
-    bad i t (inl e) w = stops-walk w (λ j. rw e) ∙ tests-ones which 64
-    bad i t (inr e) w = stops-walk w (λ j. rw e) ∙ tests-ones which 64
+    bad i t (inl e) w = stops-walk _ _ _ _ _ _ w (λ j. rw e) ∙ tests-ones which 64
+    bad i t (inr e) w = stops-walk _ _ _ _ _ _ w (λ j. rw e) ∙ tests-ones which 64
 
 -- the test of one element, by what its parts said
 module _ (size origin end address : ℕ) (straight : Bool) (said : straight ≡ eqb (address % size) 0) where

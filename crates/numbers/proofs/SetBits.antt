@@ -3,12 +3,12 @@ use mathlib.Core.Path.{_≡_, refl, sym, ap, ap₂, _∙_, subst}
 use mathlib.Core.Bool.{Bool, true, false, not, _&&_, Bool·beq}
 use mathlib.Core.Logic.{_⊎_, inl, inr, ⊎-elim}
 use Prim.Native.Nat.{ℕ, zero, suc, _+_, _-_, _*_, _/_, _%_, _^_, _≤_, _<_, min}
-use native.Mathlib.Nat.{pow-suc, one-mul, zero-div, mod-lt, lt-of-lt-of-le}
+use native.Mathlib.Nat.{pow-suc, one-mul, zero-div, mod-lt}
 use native.Mathlib.Omega.{arith}
 use lib.Bits.{bitAnd, and-step, and-self}
 use lib.Count.{trailingZeros, under, trailing-of-zero}
 use lib.Dec.{eqb, ltb}
-use lib.Pow.{pow-mono, pow-pos}
+use lib.Pow.{pow-pos}
 use borrow.Author.Tests.{lt-ltb, le-ltb}
 use Rattle.numbers.specs.Bits.{bit, withoutBit, withBit, lowBits, complement, lowestOne, chosen, OnesBelow}
 use Rattle.numbers.specs.Choice.{pick}
@@ -170,11 +170,11 @@ pub record Walk {A : Type 0} (f : ℕ → A → A) (which n : ℕ) (a₀ : A) (l
   pub small : left < 2 ^ n
   pub leads : rising (ofOnes f left) n a ≡ rising (ofOnes f which) n a₀
 
-module _ {A : Type 0} {f : ℕ → A → A} {which n : ℕ} {a₀ : A} where
+module _ {A : Type 0} (f : ℕ → A → A) (which n : ℕ) (a₀ : A) where
   pub starts-walk : which < 2 ^ n → Walk f which n a₀ which a₀
   starts-walk h = record { among = λ i e. e; small = h; leads = refl }
 
-  module _ {left : ℕ} {a : A} (w : Walk f which n a₀ left a) where
+  module _ (left : ℕ) (a : A) (w : Walk f which n a₀ left a) where
     -- what no step changes is the end
     pub stops-walk : ((j : ℕ) → f j a ≡ a) → a ≡ rising (ofOnes f which) n a₀
     unfolding ofOnes
@@ -190,9 +190,9 @@ module _ {A : Type 0} {f : ℕ → A → A} {which n : ℕ} {a₀ : A} where
         ∙ w .leads
 
     -- one turn, at the lowest one
-    module _ (short : n ≤ 64) (some : left ≡ 0 → ⊥) {i : ℕ} (at : i ≡ lowestOne left) where
+    module _ (some : 0 < left) (narrow : left < 2 ^ 64) (i : ℕ) (at : i ≡ lowestOne left) where
       is-lowest : Lowest left i
-      is-lowest = subst (Lowest left) (sym at) (lowest 64 left (omega arith) (lt-of-lt-of-le (w .small) (pow-mono short)))
+      is-lowest = subst (Lowest left) (sym at) (lowest 64 left some narrow)
 
       pub index-below : i < n
       index-below = inside left i is-lowest n (w .small)
@@ -200,16 +200,16 @@ module _ {A : Type 0} {f : ℕ → A → A} {which n : ℕ} {a₀ : A} where
       pub index-one : bit which i ≡ true
       index-one = w .among i (bit-is left i 1 (is-lowest .one))
 
-      module _ {rest : ℕ} (others : rest ≡ withoutBit left (lowestOne left)) where
+      module _ (rest : ℕ) (others : rest ≡ withoutBit left (lowestOne left)) where
         is-rest : withoutBit left i ≡ rest
         is-rest = ap (withoutBit left) at ∙ sym others
 
         -- the measure of the loop
         pub less-left : rest < left
-        less-left = let g = less left i is-lowest (omega arith) in let e = is-rest in omega arith
+        less-left = let g = less left i is-lowest some in let e = is-rest in omega arith
 
-        pub turns-walk : {b : A} → b ≡ f i a → Walk f which n a₀ rest b
-        turns-walk {b} e = record {
+        pub turns-walk : (b : A) → b ≡ f i a → Walk f which n a₀ rest b
+        turns-walk b e = record {
           among = λ j g. still j g (decEq j i);
           small = let g = less-left in let h = w .small in omega arith;
           leads = ap₂ (λ (x : ℕ) (y : A). rising (ofOnes f x) n y) (sym is-rest) e ∙ sym (first f left i is-lowest a n index-below) ∙ w .leads;

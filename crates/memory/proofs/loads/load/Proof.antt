@@ -22,29 +22,29 @@ lowest-requires : tie.Need-lowest-requires Inv-loop μ-loop
 lowest-requires c κs = search needs
 
 mul-load-one : tie.Need-mul-load-one Inv-loop μ-loop
-mul-load-one c = record { fits = omega (arith, index-below (c .before .before .before .loop .inv) (omega arith) (c .before .before .loop-test .taken) (c .before .lowest .ensures)) }
+mul-load-one c = record { fits = omega (arith, index-below _ _ _ _ _ _ (c .before .before .before .loop .inv) (omega arith) (c .before .before .before .loop .inv .small) _ (c .before .lowest .ensures)) }
 
 element-copy-out-load-one : tie.Need-element-copy-out-load-one Inv-loop μ-loop
-element-copy-out-load-one c = index-below (c .before .before .before .loop .inv) (omega arith) (c .before .before .loop-test .taken) (c .before .lowest .ensures)
+element-copy-out-load-one c = index-below _ _ _ _ _ _ (c .before .before .before .loop .inv) (omega arith) (c .before .before .before .loop .inv .small) _ (c .before .lowest .ensures)
 
 load-one-requires : tie.Need-load-one-requires Inv-loop μ-loop
 load-one-requires c κs =
-    let below = index-below (c .before .before .before .before .loop .inv) (omega arith) (c .before .before .before .loop-test .taken) (c .before .before .lowest .ensures) in
-    let one = index-one (c .before .before .before .before .loop .inv) (omega arith) (c .before .before .before .loop-test .taken) (c .before .before .lowest .ensures) in
+    let below = index-below _ _ _ _ _ _ (c .before .before .before .before .loop .inv) (omega arith) (c .before .before .before .before .loop .inv .small) _ (c .before .before .lowest .ensures) in
+    let one = index-one _ _ _ _ _ _ (c .before .before .before .before .loop .inv) (omega arith) (c .before .before .before .before .loop .inv .small) _ (c .before .before .lowest .ensures) in
     (search needs, below, c .before .before .before .before .before .before .pre .1 _ below one)
 
 without-lowest-requires : tie.Need-without-lowest-requires Inv-loop μ-loop
 without-lowest-requires c κs = search needs
 
 loop-less : tie.Need-loop-less Inv-loop μ-loop
-loop-less c = less-left (c .before .before .before .before .before .before .loop .inv) (omega arith) (c .before .before .before .before .before .loop-test .taken) (c .before .before .before .before .lowest .ensures) (c .without-lowest .ensures)
+loop-less c = less-left _ _ _ _ _ _ (c .before .before .before .before .before .before .loop .inv) (omega arith) (c .before .before .before .before .before .before .loop .inv .small) _ (c .before .before .before .before .lowest .ensures) _ (c .without-lowest .ensures)
 
 loop-again : tie.Need-loop-again Inv-loop μ-loop
 unfolding loadAt
-loop-again c = turns-walk (c .before .before .before .before .before .before .loop .inv) (omega arith) (c .before .before .before .before .before .loop-test .taken) (c .before .before .before .before .lowest .ensures) (c .without-lowest .ensures) (c .before .load-one .ensures)
+loop-again c = turns-walk _ _ _ _ _ _ (c .before .before .before .before .before .before .loop .inv) (omega arith) (c .before .before .before .before .before .before .loop .inv .small) _ (c .before .before .before .before .lowest .ensures) _ (c .without-lowest .ensures) _ (c .before .load-one .ensures)
 
 returns : tie.Need-returns Inv-loop μ-loop
-returns c = ends-walk (c .before .loop .inv) (c .loop-test .left) ∙ loads-ones _ _ _ _ _ _ _ _
+returns c = ends-walk _ _ _ _ _ _ (c .before .loop .inv) (c .loop-test .left) ∙ loads-ones _ _ _ _ _ _ _ _
 
 pub load-spec : {M : Type 1} → statement M
 load-spec =

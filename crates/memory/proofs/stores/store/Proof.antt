@@ -25,24 +25,24 @@ mul-v : tie.Need-mul-v Inv-loop μ-loop
 mul-v c = search needs
 
 add-v : tie.Need-add-v Inv-loop μ-loop
-add-v c = record { fits = omega (arith, index-below (c .before .before .loop .inv .0) (omega arith) (c .before .loop-test .taken) (c .lowest .ensures)) }
+add-v c = record { fits = omega (arith, index-below _ _ _ _ _ _ (c .before .before .loop .inv .0) (omega arith) (c .before .before .loop .inv .0 .small) _ (c .lowest .ensures)) }
 
 mul-v-2 : tie.Need-mul-v-2 Inv-loop μ-loop
-mul-v-2 c = record { fits = omega (arith, index-below (c .before .before .loop .inv .0) (omega arith) (c .before .loop-test .taken) (c .lowest .ensures)) }
+mul-v-2 c = record { fits = omega (arith, index-below _ _ _ _ _ _ (c .before .before .loop .inv .0) (omega arith) (c .before .before .loop .inv .0 .small) _ (c .lowest .ensures)) }
 
 element-copy-out-v : tie.Need-element-copy-out-v Inv-loop μ-loop
-element-copy-out-v c = omega (arith, index-below (c .before .before .loop .inv .0) (omega arith) (c .before .loop-test .taken) (c .lowest .ensures))
+element-copy-out-v c = omega (arith, index-below _ _ _ _ _ _ (c .before .before .loop .inv .0) (omega arith) (c .before .before .loop .inv .0 .small) _ (c .lowest .ensures))
 
 mul-store-one : tie.Need-mul-store-one Inv-loop μ-loop
-mul-store-one c = record { fits = omega (arith, index-below (c .before .before .before .before .loop .inv .0) (omega arith) (c .before .before .before .loop-test .taken) (c .before .before .lowest .ensures)) }
+mul-store-one c = record { fits = omega (arith, index-below _ _ _ _ _ _ (c .before .before .before .before .loop .inv .0) (omega arith) (c .before .before .before .before .loop .inv .0 .small) _ (c .before .before .lowest .ensures)) }
 
 element-copy-out-store-one : tie.Need-element-copy-out-store-one Inv-loop μ-loop
-element-copy-out-store-one c = index-below (c .before .before .before .before .loop .inv .0) (omega arith) (c .before .before .before .loop-test .taken) (c .before .before .lowest .ensures)
+element-copy-out-store-one c = index-below _ _ _ _ _ _ (c .before .before .before .before .loop .inv .0) (omega arith) (c .before .before .before .before .loop .inv .0 .small) _ (c .before .before .lowest .ensures)
 
 store-one-requires : tie.Need-store-one-requires Inv-loop μ-loop
 store-one-requires c κs =
-    let below = index-below (c .before .before .before .before .before .loop .inv .0) (omega arith) (c .before .before .before .before .loop-test .taken) (c .before .before .before .lowest .ensures) in
-    let one = index-one (c .before .before .before .before .before .loop .inv .0) (omega arith) (c .before .before .before .before .loop-test .taken) (c .before .before .before .lowest .ensures) in
+    let below = index-below _ _ _ _ _ _ (c .before .before .before .before .before .loop .inv .0) (omega arith) (c .before .before .before .before .before .loop .inv .0 .small) _ (c .before .before .before .lowest .ensures) in
+    let one = index-one _ _ _ _ _ _ (c .before .before .before .before .before .loop .inv .0) (omega arith) (c .before .before .before .before .before .loop .inv .0 .small) _ (c .before .before .before .lowest .ensures) in
     let h = c .before .before .before .before .before .before .before .pre .1 _ below one in
     omega arith
 
@@ -50,17 +50,17 @@ without-lowest-requires : tie.Need-without-lowest-requires Inv-loop μ-loop
 without-lowest-requires c κs = search needs
 
 loop-less : tie.Need-loop-less Inv-loop μ-loop
-loop-less c = less-left (c .before .before .before .before .before .before .before .before .before .loop .inv .0) (omega arith) (c .before .before .before .before .before .before .before .before .loop-test .taken) (c .before .before .before .before .before .before .before .lowest .ensures) (c .without-lowest .ensures)
+loop-less c = less-left _ _ _ _ _ _ (c .before .before .before .before .before .before .before .before .before .loop .inv .0) (omega arith) (c .before .before .before .before .before .before .before .before .before .loop .inv .0 .small) _ (c .before .before .before .before .before .before .before .lowest .ensures) _ (c .without-lowest .ensures)
 
 loop-again : tie.Need-loop-again Inv-loop μ-loop
 unfolding storeAt
-loop-again c = (turns-walk (c .before .before .before .before .before .before .before .before .before .loop .inv .0) (omega arith) (c .before .before .before .before .before .before .before .before .loop-test .taken) (c .before .before .before .before .before .before .before .lowest .ensures) (c .without-lowest .ensures) (c .before .before .before .store-one .ensures), search needs)
+loop-again c = (turns-walk _ _ _ _ _ _ (c .before .before .before .before .before .before .before .before .before .loop .inv .0) (omega arith) (c .before .before .before .before .before .before .before .before .before .loop .inv .0 .small) _ (c .before .before .before .before .before .before .before .lowest .ensures) _ (c .without-lowest .ensures) _ (c .before .before .before .store-one .ensures), search needs)
 
 same-length : tie.Need-same-length Inv-loop μ-loop
 same-length c = search needs
 
 returns : tie.Need-returns Inv-loop μ-loop
-returns c = ends-walk (c .before .loop .inv .0) (c .loop-test .left) ∙ stores-ones _ _ _ _ _ _ _ _
+returns c = ends-walk _ _ _ _ _ _ (c .before .loop .inv .0) (c .loop-test .left) ∙ stores-ones _ _ _ _ _ _ _ _
 
 pub store-spec : {M : Type 1} → statement M
 store-spec =

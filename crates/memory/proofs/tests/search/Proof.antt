@@ -26,10 +26,10 @@ lowest-requires : tie.Need-lowest-requires Inv-loop μ-loop
 lowest-requires c κs = search needs
 
 mul-one : tie.Need-mul-one Inv-loop μ-loop
-mul-one c = record { fits = omega (arith, index-below (c .before .before .loop .inv) (omega arith) (c .before .loop-test .taken) (c .lowest .ensures)) }
+mul-one c = record { fits = omega (arith, index-below _ _ _ _ _ _ (c .before .before .loop .inv) (omega arith) (c .before .before .loop .inv .small) _ (c .lowest .ensures)) }
 
 element-copy-out-one : tie.Need-element-copy-out-one Inv-loop μ-loop
-element-copy-out-one c = index-below (c .before .before .loop .inv) (omega arith) (c .before .loop-test .taken) (c .lowest .ensures)
+element-copy-out-one c = index-below _ _ _ _ _ _ (c .before .before .loop .inv) (omega arith) (c .before .before .loop .inv .small) _ (c .lowest .ensures)
 
 one-requires : tie.Need-one-requires Inv-loop μ-loop
 one-requires c κs = search needs
@@ -41,22 +41,22 @@ enum-told-2 : tie.Need-enum-told-2 Inv-loop μ-loop
 enum-told-2 c = search needs
 
 returns : tie.Need-returns Inv-loop μ-loop
-returns c = bad _ _ _ _ _ test.Misaligned (inl refl) (turns-walk (c .before .before .before .before .before .before .loop .inv) (omega arith) (c .before .before .before .before .before .loop-test .taken) (c .before .before .before .before .lowest .ensures) refl (turn _ _ _ _ _ _ test.Misaligned (c .before .before .one .ensures) (c .enum-told2 .given .1)))
+returns c = bad _ _ _ _ _ test.Misaligned (inl refl) (turns-walk _ _ _ _ _ _ (c .before .before .before .before .before .before .loop .inv) (omega arith) (c .before .before .before .before .before .before .loop .inv .small) _ (c .before .before .before .before .lowest .ensures) _ refl _ (turn _ _ _ _ _ _ test.Misaligned (c .before .before .one .ensures) (c .enum-told2 .given .1)))
 
 enum-told-3 : tie.Need-enum-told-3 Inv-loop μ-loop
 enum-told-3 c = search needs
 
 returns-2 : tie.Need-returns-2 Inv-loop μ-loop
-returns-2 c = bad _ _ _ _ _ test.Outside (inr refl) (turns-walk (c .before .before .before .before .before .before .loop .inv) (omega arith) (c .before .before .before .before .before .loop-test .taken) (c .before .before .before .before .lowest .ensures) refl (turn _ _ _ _ _ _ test.Outside (c .before .before .one .ensures) (c .enum-told3 .given .1)))
+returns-2 c = bad _ _ _ _ _ test.Outside (inr refl) (turns-walk _ _ _ _ _ _ (c .before .before .before .before .before .before .loop .inv) (omega arith) (c .before .before .before .before .before .before .loop .inv .small) _ (c .before .before .before .before .lowest .ensures) _ refl _ (turn _ _ _ _ _ _ test.Outside (c .before .before .one .ensures) (c .enum-told3 .given .1)))
 
 without-lowest-requires : tie.Need-without-lowest-requires Inv-loop μ-loop
 without-lowest-requires c κs = search needs
 
 loop-less : tie.Need-loop-less Inv-loop μ-loop
-loop-less c = less-left (c .before .before .before .before .before .before .before .loop .inv) (omega arith) (c .before .before .before .before .before .before .loop-test .taken) (c .before .before .before .before .before .lowest .ensures) (c .without-lowest .ensures)
+loop-less c = less-left _ _ _ _ _ _ (c .before .before .before .before .before .before .before .loop .inv) (omega arith) (c .before .before .before .before .before .before .before .loop .inv .small) _ (c .before .before .before .before .before .lowest .ensures) _ (c .without-lowest .ensures)
 
 loop-again : tie.Need-loop-again Inv-loop μ-loop
-loop-again c = turns-walk (c .before .before .before .before .before .before .before .loop .inv) (omega arith) (c .before .before .before .before .before .before .loop-test .taken) (c .before .before .before .before .before .lowest .ensures) (c .without-lowest .ensures) (turn _ _ _ _ _ _ test.Fine (c .before .before .before .one .ensures) (c .before .enum-told .given .1))
+loop-again c = turns-walk _ _ _ _ _ _ (c .before .before .before .before .before .before .before .loop .inv) (omega arith) (c .before .before .before .before .before .before .before .loop .inv .small) _ (c .before .before .before .before .before .lowest .ensures) _ (c .without-lowest .ensures) _ (turn _ _ _ _ _ _ test.Fine (c .before .before .before .one .ensures) (c .before .enum-told .given .1))
 
 returns-3 : tie.Need-returns-3 Inv-loop μ-loop
 returns-3 c = no-more _ _ _ _ (c .before .loop .inv) (c .loop-test .left)
