@@ -1,9 +1,10 @@
 // One record of 16 bytes.
 ghost use mathlib.Core.Path.{_≡_};
-ghost use lib.ListN.{length};
-ghost use Rattle.numbers.specs.Bytes.{allZero};
+ghost use Prim.Native.Nat.{_<_};
+ghost use lib.ListN.{length, take};
+ghost use Rattle.numbers.specs.Bytes.{numberOf};
 ghost use Rattle.saved.specs.File.{recordBytes};
-ghost use Rattle.saved.specs.Load.{numberIn, fillerIn, contentsIn, contentsInRange, goodPart};
+ghost use Rattle.saved.specs.Load.{contentsIn, contentsInRange, goodPart};
 
 // Writes a record.
 pub(crate) fn put(part: &mut [u8], number: u64, contents: u64)
@@ -28,21 +29,21 @@ pub(crate) fn put(part: &mut [u8], number: u64, contents: u64)
     part[15] = (contents / 256 / 256 / 256 / 256 / 256 / 256 / 256 % 256) as u8;
 }
 
-// The number of a record.
-fn number(part: &[u8]) -> u64
+// The eight bytes that a record begins with, its number and the filler, as one number.
+fn head(part: &[u8]) -> u64
     requires { ⌜ length (now part) ≡ 16 ⌝ }
-    ensures { λ r. ⌜ r ≡ numberIn (now (part .entry)) ⌝ }
+    ensures { λ r. ⌜ r ≡ numberOf (take 8 (now (part .entry))) ⌝ }
 {
-    numbers::bytes::from_two(part[0], part[1])
-}
-
-// The filler bytes of a record are zero.
-fn unfilled(part: &[u8]) -> bool
-    requires { ⌜ length (now part) ≡ 16 ⌝ }
-    ensures { λ r. ⌜ r ≡ allZero (fillerIn (now (part .entry))) ⌝ }
-{
-    (part[2] == 0)
-        & ((part[3] == 0) & ((part[4] == 0) & ((part[5] == 0) & ((part[6] == 0) & (part[7] == 0)))))
+    numbers::bytes::from_eight(
+        part[0],
+        part[1],
+        part[2],
+        part[3],
+        part[4],
+        part[5],
+        part[6],
+        part[7],
+    )
 }
 
 // The contents of a record.
@@ -84,10 +85,10 @@ fn in_range(k: u64, v: u64) -> bool
     state::vpsr_in_range(v)
 }
 
-// The 16 bytes are a record k.
+// The 16 bytes are a record k. Its number and the zeros after it are compared at once.
 pub(crate) fn good(part: &[u8], k: u64) -> bool
-    requires { ⌜ length (now part) ≡ 16 ⌝ }
+    requires { ⌜ (length (now part) ≡ 16) × (k < 65536) ⌝ }
     ensures { λ r. ⌜ r ≡ goodPart (now (part .entry)) k ⌝ }
 {
-    (number(part) == k) & (unfilled(part) & in_range(k, contents(part)))
+    (head(part) == k) & in_range(k, contents(part))
 }
