@@ -5,14 +5,13 @@ use mathlib.Core.List.{List}
 use Prim.Native.Nat.{ℕ, _+_, _-_, _%_, _^_, _≤_, _<_}
 use native.Mathlib.Omega.{arith}
 use lib.Dec.{leb, eqb}
-use lib.ListN.{length, getD}
+use lib.ListN.{length}
 use borrow.Author.Tests.{le-leb, lt-leb, leb-true, leb-false}
 use borrow.Rule.Slice.PartMut.{putMid}
-use Rattle.numbers.specs.Bytes.{bytesOf, numberOf}
+use Rattle.numbers.specs.Bytes.{bytesOf}
 use Rattle.numbers.specs.Over.{over}
 use Rattle.numbers.proofs.LittleEndian.{bytes-length}
 use Rattle.numbers.proofs.Over.{part-over}
-use Rattle.numbers.proofs.Places.{valuesBelow, places}
 use Rattle.numbers.proofs.Tests.{and-right}
 use Rattle.memory.specs.Window.{allowed, putAt}
 
@@ -35,10 +34,6 @@ allows bytes origin h =
 pub ends-within : (bytes origin : ℕ) → allowed bytes origin ≡ true → origin + bytes ≤ 2 ^ 32
 unfolding allowed
 ends-within bytes origin e = leb-true (origin + bytes) (2 ^ 32) (and-right (leb bytes 65536 && eqb (origin % 8) 0) _ e)
-
--- the number that all of a part makes
-pub whole : (size : ℕ) (part : List ℕ) → length part ≡ size → numberOf (valuesBelow size (λ (i : ℕ). getD part i 0)) ≡ numberOf part
-whole size part e = sym (ap numberOf (places size part e))
 
 -- a part of size bytes that was lent and came back as a number's bytes
 pub put : (size : ℕ) (w part : List ℕ) (offset v : ℕ) → part ≡ bytesOf size v → putMid offset (offset + size - offset) w part ≡ putAt size w offset v

@@ -18,10 +18,10 @@ fn fetched(window: &[u8], offset: usize, quadword: bool, old: u64) -> u64
 {
     if quadword {
         let end = offset + 8;
-        return crate::window::quadword(&window[offset..end]);
+        return numbers::bytes::quadword(&window[offset..end]);
     }
     let end = offset + 4;
-    numbers::halves::with_low(old, crate::window::longword(&window[offset..end]))
+    numbers::halves::with_low(old, numbers::bytes::longword(&window[offset..end]))
 }
 
 // Loads one element.

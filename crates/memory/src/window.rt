@@ -1,8 +1,8 @@
-// The window: whether it is allowed, and the numbers in it.
+// The window: whether it is allowed, and what is written into it.
 ghost use mathlib.Core.Path.{_≡_};
 ghost use Prim.Native.Nat.{_-_, _≤_};
 ghost use lib.ListN.{length};
-ghost use Rattle.numbers.specs.Bytes.{bytesOf, numberOf};
+ghost use Rattle.numbers.specs.Bytes.{bytesOf};
 ghost use Rattle.memory.specs.Window.{allowed as allowedOf};
 
 // A window of so many bytes may stand at an origin.
@@ -21,31 +21,6 @@ pub(crate) fn offset_of(address: u32, origin: u64) -> usize
     ensures { λ r. ⌜ r ≡ address - origin ⌝ }
 {
     (address as u64 - origin) as usize
-}
-
-// The longword in four bytes.
-pub(crate) fn longword(part: &[u8]) -> u32
-    requires { ⌜ length (now part) ≡ 4 ⌝ }
-    ensures { λ r. ⌜ r ≡ numberOf (now (part .entry)) ⌝ }
-{
-    numbers::bytes::from_four(part[0], part[1], part[2], part[3])
-}
-
-// The quadword in eight bytes.
-pub(crate) fn quadword(part: &[u8]) -> u64
-    requires { ⌜ length (now part) ≡ 8 ⌝ }
-    ensures { λ r. ⌜ r ≡ numberOf (now (part .entry)) ⌝ }
-{
-    numbers::bytes::from_eight(
-        part[0],
-        part[1],
-        part[2],
-        part[3],
-        part[4],
-        part[5],
-        part[6],
-        part[7],
-    )
 }
 
 // Writes a longword, the low half of v, into four bytes.

@@ -1,5 +1,5 @@
 -- Laws of little-endian bytes: a number that fits comes back from its bytes, and bytes from their number. Assumes nothing.
-use mathlib.Core.Bool.{Bool, true, false, _&&_}
+use mathlib.Core.Bool.{true}
 use mathlib.Core.Path.{_≡_, refl, sym, ap, _∙_, subst}
 use mathlib.Core.List.{List, [], _∷_}
 use Prim.Native.Nat.{ℕ, zero, suc, _+_, _*_, _/_, _%_, _^_, _<_}
@@ -10,6 +10,7 @@ use lib.ListN.{length, getD, take, drop}
 use lib.Seq.{getD-drop}
 use borrow.Author.Tests.{eqb-true}
 use Rattle.numbers.specs.Bytes.{Bytes, bytesOf, numberOf, allZero}
+use Rattle.numbers.proofs.Places.{valuesBelow, places}
 use Rattle.numbers.proofs.Tests.{and-left, and-right}
 
 pub bytes-drop : (n : ℕ) (l : List ℕ) → Bytes l → Bytes (drop n l)
@@ -56,3 +57,7 @@ number-below (b ∷ l) h =
     let i : numberOf l < 256 ^ length l = number-below l (λ j. h (suc j)) in
     let p : b + 256 * numberOf l < 256 ^ length l * 256 = omega (arith, h zero) in
     subst (λ (m : ℕ). b + 256 * numberOf l < m) (sym (pow-suc 256 (length l))) p
+
+-- the number that all of a part makes
+pub whole : (size : ℕ) (part : List ℕ) → length part ≡ size → numberOf (valuesBelow size (λ (i : ℕ). getD part i 0)) ≡ numberOf part
+whole size part e = sym (ap numberOf (places size part e))

@@ -1,6 +1,7 @@
 // Little-endian bytes.
 ghost use mathlib.Core.Path.{_≡_};
 ghost use mathlib.Core.List.{[], _∷_};
+ghost use lib.ListN.{length};
 ghost use Rattle.numbers.specs.Bytes.{numberOf};
 
 // The number that two bytes make, the lowest first.
@@ -29,4 +30,29 @@ pub fn from_eight(b0: u8, b1: u8, b2: u8, b3: u8, b4: u8, b5: u8, b6: u8, b7: u8
         + b5 as u64 * 1099511627776
         + b6 as u64 * 281474976710656
         + b7 as u64 * 72057594037927936
+}
+
+// The longword in four bytes.
+pub fn longword(part: &[u8]) -> u32
+    requires { ⌜ length (now part) ≡ 4 ⌝ }
+    ensures { λ r. ⌜ r ≡ numberOf (now (part .entry)) ⌝ }
+{
+    from_four(part[0], part[1], part[2], part[3])
+}
+
+// The quadword in eight bytes.
+pub fn quadword(part: &[u8]) -> u64
+    requires { ⌜ length (now part) ≡ 8 ⌝ }
+    ensures { λ r. ⌜ r ≡ numberOf (now (part .entry)) ⌝ }
+{
+    from_eight(
+        part[0],
+        part[1],
+        part[2],
+        part[3],
+        part[4],
+        part[5],
+        part[6],
+        part[7],
+    )
 }

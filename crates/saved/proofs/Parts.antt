@@ -1,25 +1,19 @@
 -- One record's parts by their bytes. Assumes nothing.
-use mathlib.Core.Bool.{Bool, true, _&&_, and-true, and-false, and-assoc}
+use mathlib.Core.Bool.{Bool, _&&_, and-true, and-false, and-assoc}
 use mathlib.Core.Path.{_≡_, refl, sym, ap, ap₂, _∙_}
 use mathlib.Core.List.{List, [], _∷_}
 use Prim.Native.Nat.{ℕ, zero, suc, _+_, _*_, _<_}
 use native.Mathlib.Omega.{arith}
 use lib.Dec.{eqb}
-use lib.ListN.{length, getD, take}
+use lib.ListN.{length, take, drop, length-drop}
+use lib.Seq.{take-all}
 use borrow.Author.Tests.{ne-eqb}
 use Rattle.numbers.specs.Bytes.{numberOf, allZero}
-use Rattle.numbers.proofs.Places.{places, valuesBelow}
 use Rattle.saved.specs.Load.{numberIn, fillerIn, contentsIn, contentsInRange, goodPart}
 
-module _ (part : List ℕ) (e : length part ≡ 16) where
-  whole : part ≡ valuesBelow 16 (λ (i : ℕ). getD part i 0)
-  whole = places 16 part e
-
-  pub head-bytes : numberOf (getD part 0 0 ∷ getD part 1 0 ∷ getD part 2 0 ∷ getD part 3 0 ∷ getD part 4 0 ∷ getD part 5 0 ∷ getD part 6 0 ∷ getD part 7 0 ∷ []) ≡ numberOf (take 8 part)
-  head-bytes = sym (ap (λ (l : List ℕ). numberOf (take 8 l)) whole)
-
-  pub contents-bytes : numberOf (getD part 8 0 ∷ getD part 9 0 ∷ getD part 10 0 ∷ getD part 11 0 ∷ getD part 12 0 ∷ getD part 13 0 ∷ getD part 14 0 ∷ getD part 15 0 ∷ []) ≡ contentsIn part
-  contents-bytes = sym (ap contentsIn whole)
+-- the last eight bytes of a record
+pub contents-bytes : (part : List ℕ) (v : ℕ) → length part ≡ 16 → v ≡ numberOf (take 8 (drop 8 part)) → v ≡ contentsIn part
+contents-bytes part v e f = f ∙ ap numberOf (take-all 8 (drop 8 part) (simp length-drop (omega arith)))
 
 -- bytes that make zero are zeros
 zeros : (l : List ℕ) → allZero l ≡ eqb (numberOf l) 0

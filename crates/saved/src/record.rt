@@ -34,16 +34,7 @@ fn head(part: &[u8]) -> u64
     requires { ⌜ length (now part) ≡ 16 ⌝ }
     ensures { λ r. ⌜ r ≡ numberOf (take 8 (now (part .entry))) ⌝ }
 {
-    numbers::bytes::from_eight(
-        part[0],
-        part[1],
-        part[2],
-        part[3],
-        part[4],
-        part[5],
-        part[6],
-        part[7],
-    )
+    numbers::bytes::quadword(&part[0..8])
 }
 
 // The contents of a record.
@@ -51,16 +42,7 @@ pub(crate) fn contents(part: &[u8]) -> u64
     requires { ⌜ length (now part) ≡ 16 ⌝ }
     ensures { λ r. ⌜ r ≡ contentsIn (now (part .entry)) ⌝ }
 {
-    numbers::bytes::from_eight(
-        part[8],
-        part[9],
-        part[10],
-        part[11],
-        part[12],
-        part[13],
-        part[14],
-        part[15],
-    )
+    numbers::bytes::quadword(&part[8..16])
 }
 
 // Record k may hold v.

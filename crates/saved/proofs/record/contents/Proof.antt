@@ -1,51 +1,25 @@
--- `contents` meets its contract: the record's last eight bytes. Assumes nothing.
-use mathlib.Core.Path.{_∙_}
+-- `contents` meets its contract. Assumes nothing.
 use Rattle.saved.proofs.Parts.{contents-bytes}
 use borrow.Author.Needs.{needs}
 use Rattle.saved.proofs.record.contents.Statement.{statement}
 use Rattle.saved.proofs.record.contents.Tie as tie
 
-shared-slice-read-from-eight : tie.Need-shared-slice-read-from-eight
-shared-slice-read-from-eight c = search needs
+sub-quadword : tie.Need-sub-quadword
+sub-quadword c = search needs
 
-shared-slice-read-from-eight-2 : tie.Need-shared-slice-read-from-eight-2
-shared-slice-read-from-eight-2 c = search needs
+part-quadword-start : tie.Need-part-quadword-start
+part-quadword-start c = search needs
 
-shared-slice-read-from-eight-3 : tie.Need-shared-slice-read-from-eight-3
-shared-slice-read-from-eight-3 c = search needs
+part-quadword-end : tie.Need-part-quadword-end
+part-quadword-end c = search needs
 
-shared-slice-read-from-eight-4 : tie.Need-shared-slice-read-from-eight-4
-shared-slice-read-from-eight-4 c = search needs
-
-shared-slice-read-from-eight-5 : tie.Need-shared-slice-read-from-eight-5
-shared-slice-read-from-eight-5 c = search needs
-
-shared-slice-read-from-eight-6 : tie.Need-shared-slice-read-from-eight-6
-shared-slice-read-from-eight-6 c = search needs
-
-shared-slice-read-from-eight-7 : tie.Need-shared-slice-read-from-eight-7
-shared-slice-read-from-eight-7 c = search needs
-
-shared-slice-read-from-eight-8 : tie.Need-shared-slice-read-from-eight-8
-shared-slice-read-from-eight-8 c = search needs
-
-from-eight-requires : tie.Need-from-eight-requires
-from-eight-requires c κs = search needs
+quadword-requires : tie.Need-quadword-requires
+quadword-requires c κs = search needs
 
 returns : tie.Need-returns
-returns c = c .from-eight .ensures ∙ contents-bytes (c .before .before .before .before .before .before .before .before .before .before .args .part .now) (c .before .before .before .before .before .before .before .before .before .before .pre)
+returns c = search (contents-bytes, needs)
 
 pub contents-spec : {M : Type 1} → statement M
 contents-spec =
     tie.close
-    (tie.spec
-    shared-slice-read-from-eight
-    shared-slice-read-from-eight-2
-    shared-slice-read-from-eight-3
-    shared-slice-read-from-eight-4
-    shared-slice-read-from-eight-5
-    shared-slice-read-from-eight-6
-    shared-slice-read-from-eight-7
-    shared-slice-read-from-eight-8
-    from-eight-requires
-    returns)
+    (tie.spec sub-quadword part-quadword-start part-quadword-end quadword-requires returns)

@@ -1,5 +1,4 @@
 -- `in_range` meets its contract: its tests are the definition's. Assumes nothing.
-use mathlib.Core.Path.{_∙_}
 use borrow.Author.Tests.{lt-ltb, le-ltb, ne-eqb}
 use Rattle.saved.specs.Load.{contentsInRange}
 use borrow.Author.Needs.{needs}

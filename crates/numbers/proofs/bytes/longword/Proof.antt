@@ -1,9 +1,9 @@
--- `longword` meets its contract: the number that the four bytes make. Assumes nothing.
+-- `bytes::longword` meets its contract: the number that the four bytes make. Assumes nothing.
 use mathlib.Core.Path.{_∙_}
-use Rattle.memory.proofs.Windows.{whole}
+use Rattle.numbers.proofs.LittleEndian.{whole}
 use borrow.Author.Needs.{needs}
-use Rattle.memory.proofs.window.longword.Statement.{statement}
-use Rattle.memory.proofs.window.longword.Tie as tie
+use Rattle.numbers.proofs.bytes.longword.Statement.{statement}
+use Rattle.numbers.proofs.bytes.longword.Tie as tie
 
 shared-slice-read-from-four : tie.Need-shared-slice-read-from-four
 shared-slice-read-from-four c = search needs
