@@ -11,7 +11,7 @@ use lib.Bits.{bitOr, bitAnd, or-shr, or-mod, and-shr, and-mod, and-lt, or-lt}
 use lib.Pow.{shl-shr, shr-shr, pow-add, pow-mono, pow-pos}
 use Rattle.numbers.specs.Choice.{pick}
 use Rattle.numbers.specs.Bits.{bit, complement}
-use Rattle.numbers.proofs.BitLaws.{digit, digit-lt, of-digit, same-digits, bit-counts, bit-complement}
+use Rattle.numbers.proofs.BitLaws.{digit, digit-lt, of-digit, same-digits, bit-counts, bit-above, bit-complement}
 use Rattle.numbers.proofs.Tests.{below-or-not}
 
 -- sets with the same bits are the same
@@ -34,9 +34,6 @@ bit-and a b k =
 
 pub bit-none : (k : ℕ) → bit 0 k ≡ false
 bit-none k = ap (λ (n : ℕ). eqb (n % 2) 1) (zero-div (2 ^ k))
-
-pub bit-above : (x n k : ℕ) → x < 2 ^ n → n ≤ k → bit x k ≡ false
-bit-above x n k small h = ap (λ (d : ℕ). eqb (d % 2) 1) (div-eq-of-lt (lt-of-lt-of-le small (pow-mono h)))
 
 -- a set moved up by n
 pub bit-moved : (x n k : ℕ) → bit (x * 2 ^ n) (n + k) ≡ bit x k
