@@ -13,18 +13,20 @@ use Rattle.state.specs.declared.Control.{Control}
 use Rattle.state.specs.Answer.{Answer, done, disabled, outOfRange}
 use Rattle.state.specs.State.{inRange, enabled}
 use Rattle.opcodes.specs.declared.Work.{Work}
+use Rattle.opcodes.specs.declared.Work.the-variants.{AddLongword}
 use Rattle.opcodes.specs.declared.Instruction.{Instruction}
 use Rattle.opcodes.specs.declared.Opcode.{Opcode}
 use Rattle.opcodes.specs.declared.Opcode.the-variants as opcode
 use Rattle.opcodes.specs.declared.ControlWord.{ControlWord}
 use Rattle.opcodes.specs.declared.ControlWord.the-variants as word
 use Rattle.opcodes.specs.Opcodes.{opcodeOf, isMemory}
-use Rattle.opcodes.specs.ControlWord.{controlWordOf}
-use Rattle.opcodes.specs.Decoding.{LookedUp, ControlWordRead}
+use Rattle.opcodes.specs.ControlWord.{instructionOf, controlWordOf}
+use Rattle.opcodes.specs.Decoding.{decodedWord, decodedWith, decodedOf, LookedUp, ControlWordRead}
 use Rattle.queue.specs.declared.Reply.{Reply}
 use Rattle.queue.specs.declared.Reply.the-variants as reply
-use Rattle.queue.specs.Queue.{Queue, size, wellFormed, ofWord, ofOpcode, atPosition, fine, positions, acceptance, queueRefused}
-use Rattle.queue.specs.Reply.{replyAnswer}
+use Rattle.queue.specs.Queue.{Queue, size, instructionOr, wellFormed, ofWord, ofOpcode, atPosition, fine, positions, acceptance, queueRefused}
+use Rattle.queue.specs.Reply.{replyAnswer, instructionFrom}
+use Rattle.queue.specs.Tables.{standing}
 
 -- one position
 module _ (p k c : ℕ) (o : Opcode) (looked : LookedUp k o) where
@@ -47,6 +49,17 @@ module _ (p k c : ℕ) (o : Opcode) (looked : LookedUp k o) where
 
       pub word-accepted : (i : Instruction) → q ≡ word.Accepted i → replyAnswer reply.Done ≡ ofOpcode p (opcodeOf k) c
       word-accepted i e = rw e at worded
+
+      pub word-decoded : (i : Instruction) → q ≡ word.Accepted i → i ≡ instructionFrom k c
+      unfolding decodedOf
+      word-decoded i e = ap (instructionOr (instructionOf AddLongword false 0)) (ap decodedWord (sym e ∙ read .result) ∙ ap (decodedWith c) (sym accepted ∙ looked .result))
+
+-- a refused position has no instruction
+pub none-decoded : (r s : Reply) (a : Answer) (i j : Instruction) → r ≡ s → fine (replyAnswer s) ≡ false → replyAnswer s ≡ a → (replyAnswer r ≡ a) × (fine (replyAnswer r) ≡ true → i ≡ j)
+none-decoded r s a i j e f g = (ap replyAnswer e ∙ g, λ t. absurd (let z : _≡_ {A = ℕ} 0 1 = clash (sym t ∙ ap (λ (u : Reply). fine (replyAnswer u)) e ∙ f) in omega arith))
+  where
+    clash : true ≡ false → _≡_ {A = ℕ} 0 1
+    clash u = ap (λ (b : Bool). pick b 0 1) u
 
 -- ---- the positions, from 0 on
 module _ (q : Queue) where
@@ -98,23 +111,41 @@ module _ (q : Queue) where
 
   -- ---- the tests before them
   module _ (c : Control) where
-    pub refused-12 : inRange c ≡ false → outOfRange ≡ acceptance c q
-    unfolding acceptance
+    pub refused-12 : inRange c ≡ false → outOfRange ≡ standing c q
+    unfolding standing
     refused-12 e = rw e
 
     module _ (in-range : inRange c ≡ true) where
-      pub refused-8 : wellFormed q ≡ false → queueRefused ≡ acceptance c q
-      unfolding acceptance
+      pub refused-8 : wellFormed q ≡ false → queueRefused ≡ standing c q
+      unfolding standing
       refused-8 e = rw (in-range, e)
 
       module _ (well-formed : wellFormed q ≡ true) where
-        pub refused-3 : enabled c ≡ false → disabled ≡ acceptance c q
-        unfolding acceptance
+        pub refused-3 : enabled c ≡ false → disabled ≡ standing c q
+        unfolding standing
         refused-3 e = rw (in-range, well-formed, e)
 
-        pub by-position : enabled c ≡ true → positions q (size q) ≡ acceptance c q
-        unfolding acceptance
-        by-position e = rw (in-range, well-formed, e)
+        pub refused-not : enabled c ≡ true → done 0 ≡ standing c q
+        unfolding standing
+        refused-not e = rw (in-range, well-formed, e)
+
+    then : acceptance c q ≡ pick (fine (standing c q)) (positions q (size q)) (standing c q)
+    unfolding acceptance standing
+    then = go (inRange c) (wellFormed q) (enabled c)
+      where
+        go : (a b e : Bool) → pick a (pick b (pick e (positions q (size q)) disabled) queueRefused) outOfRange
+            ≡ pick (fine (pick a (pick b (pick e (done 0) disabled) queueRefused) outOfRange)) (positions q (size q)) (pick a (pick b (pick e (done 0) disabled) queueRefused) outOfRange)
+        go true true true = refl
+        go true true false = refl
+        go true false e = refl
+        go false b e = refl
+
+    module _ (r : Reply) (stands : replyAnswer r ≡ standing c q) where
+      pub by-standing : fine (replyAnswer r) ≡ false → replyAnswer r ≡ acceptance c q
+      by-standing f = stands ∙ sym (then ∙ ap (λ (t : Bool). pick t (positions q (size q)) (standing c q)) (sym (ap fine stands) ∙ f))
+
+      pub by-position : fine (replyAnswer r) ≡ true → positions q (size q) ≡ acceptance c q
+      by-position f = sym (then ∙ ap (λ (t : Bool). pick t (positions q (size q)) (standing c q)) (sym (ap fine stands) ∙ f))
 
 -- what a well formed queue is
 pub record Lengths (q : Queue) : Type 0 where

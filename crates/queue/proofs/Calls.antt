@@ -9,17 +9,17 @@ use borrow.Author.Tests.{leb-true}
 use lib.ListN.{length, getD}
 use Rattle.numbers.specs.Choice.{pick}
 use Rattle.state.specs.declared.Control.{Control}
-use Rattle.state.specs.Answer.{Answer, done, outOfRange}
-use Rattle.state.specs.State.{state, inRange, lengthInRange, vaerInRange, vpsrInRange}
+use Rattle.state.specs.Answer.{Answer, done, disabled, outOfRange}
+use Rattle.state.specs.State.{state, inRange, enabled, lengthInRange, vaerInRange, vpsrInRange}
 use Rattle.machine.specs.declared.Progress.{Progress}
 use Rattle.machine.specs.Run.{run, progress, ended, finished}
 use Rattle.queue.specs.declared.Reply.{Reply}
-use Rattle.queue.specs.Queue.{Queue, size, wellFormed, fine, acceptance, queueRefused, straight, instructionAt}
+use Rattle.queue.specs.Queue.{Queue, size, wellFormed, fine, positions, acceptance, queueRefused, straight, instructionAt}
 use Rattle.queue.specs.Reply.{replyAnswer}
 use Rattle.queue.specs.Run.{outcome, orderRefused, ranThrough, queueRun, verdictOf, byVerdict, orderedRun}
 use Rattle.queue.specs.Order.{Mem, Proper, run as walkOf}
 use Rattle.queue.specs.Touch.{position, stepsOf, mustFollow, act}
-use Rattle.queue.specs.Tables.{decodedAt, actBy}
+use Rattle.queue.specs.Tables.{decodedAt, actBy, standing}
 use Rattle.queue.specs.declared.Verdict.{Verdict}
 use Rattle.queue.specs.declared.Verdict.the-variants as verdict
 use Rattle.opcodes.specs.declared.Instruction.{Instruction}
@@ -44,9 +44,10 @@ pub record Accepted (c : Control) (q : Queue) : Type 0 where
   pub short : c .vlr ≤ 64
   pub lengths : Lengths q
 
-pub accepted : (c : Control) (q : Queue) → fine (acceptance c q) ≡ true → Accepted c q
-unfolding acceptance inRange
-accepted c q e =
+-- whatever it gets after the range and the form
+accepted : (c : Control) (q : Queue) (x : Answer) → fine (pick (inRange c) (pick (wellFormed q) x queueRefused) outOfRange) ≡ true → Accepted c q
+unfolding inRange
+accepted c q x e =
     let u = passed (inRange c) _ outOfRange refl e in
     let v = passed (wellFormed q) _ queueRefused refl (u .1) in
     let w = both (lengthInRange (c .vlr) && lengthInRange (c .vcr) && vaerInRange (c .vaer)) (vpsrInRange (c .vpsr)) (u .0) in
@@ -54,13 +55,18 @@ accepted c q e =
     let y = both (lengthInRange (c .vlr)) (lengthInRange (c .vcr)) (x .0) in
     record { short = leb-true (c .vlr) 64 (y .0); lengths = lengths q (v .0) }
 
+pub stands-accepted : (c : Control) (q : Queue) (r : Reply) → replyAnswer r ≡ standing c q → fine (replyAnswer r) ≡ true → Accepted c q
+unfolding standing
+stands-accepted c q r e f = accepted c q (pick (enabled c) (done 0) disabled) (sym (ap fine e) ∙ f)
+
 -- what the run straight through asks
 pub through-meets : (c : Control) (q : Queue) (p : Progress) → Accepted c q → p ≡ progress c false → (p .control .vlr ≤ 64) × (length (q .controlWords) ≡ length (q .opcodes)) × (length (q .scalars) ≡ length (q .opcodes))
 through-meets c q p a e = (rw (ap (λ (b : Progress). b .control .vlr) e) (a .short), a .lengths .words, a .lengths .scalars)
 
 module _ (q : Queue) (l : List ℕ) (c : Control) (r : Reply) (asked : replyAnswer r ≡ acceptance c q) where
   pub reply-accepted : fine (replyAnswer r) ≡ true → Accepted c q
-  reply-accepted f = accepted c q (sym (ap fine asked) ∙ f)
+  unfolding acceptance
+  reply-accepted f = accepted c q (pick (enabled c) (positions q (size q)) disabled) (sym (ap fine asked) ∙ f)
 
   -- ---- straight through
   pub run-refused : fine (replyAnswer r) ≡ false → outcome (replyAnswer r) (state l c) ≡ queueRun q (state l c)

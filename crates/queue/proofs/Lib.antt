@@ -24,5 +24,7 @@ pub mod Touching
 pub mod CheckLoop
 pub mod Marking
 pub mod RunLoop
+pub mod Noting
 pub mod Verdicts
+pub mod Preparing
 pub mod DemandThree

@@ -128,6 +128,10 @@ pub built-none : (f : ℕ → Bool) → Built f 0 0
 unfolding Built
 built-none f j = bit-none j ∙ ap (λ (t : Bool). t && f j) (sym (le-ltb j 0 (omega arith)))
 
+pub built-at : (f : ℕ → Bool) (s k : ℕ) → Built f s k → (j : ℕ) → bit s j ≡ (ltb j k && f j)
+unfolding Built
+built-at f s k b = b
+
 pub built-all : (f : ℕ → Bool) (s k n : ℕ) → Built f s k → k ≤ n → n ≤ k → (j : ℕ) → bit s j ≡ (ltb j n && f j)
 unfolding Built
 built-all f s k n b h g j = b j ∙ ap (λ (m : ℕ). ltb j m && f j) same
@@ -165,3 +169,8 @@ built-more f s k t b e j = bit-joined-if t s k j ∙ ap (λ (u : Bool). t && eqb
 
 pub built-turn : (f : ℕ → Bool) (s k r : ℕ) (t : Bool) → Built f s k → t ≡ f k → r ≡ joinedIf t s k → Built f r (k + 1)
 built-turn f s k r t b e g = subst (λ (m : ℕ). Built f m (k + 1)) (sym g) (built-more f s k t b e)
+
+-- a set that has grown by the same rule
+pub built-grown : (f : ℕ → Bool) (s r k : ℕ) (t : Bool) → Built f s k → t ≡ f k → ((j : ℕ) → bit r j ≡ (t && eqb j k || bit s j)) → Built f r (k + 1)
+unfolding Built
+built-grown f s r k t b e g j = g j ∙ sym (bit-joined-if t s k j) ∙ built-more f s k t b e j

@@ -9,12 +9,11 @@ use lib.Dec.{eqb, ltb}
 use lib.Bits.{bitOr}
 use lib.ListN.{getD, set}
 use Rattle.numbers.specs.Choice.{pick}
-use Rattle.numbers.specs.Bits.{bit}
 use Rattle.numbers.proofs.BitLaws.{one-shifted}
 use Rattle.opcodes.specs.declared.Instruction.{Instruction}
 use Rattle.machine.specs.Kind.{kindOf, isCompare, isMerge, isIota}
 use Rattle.queue.specs.Touch.{position, element, isConvert}
-use Rattle.queue.specs.Tables.{joined, joinedIf, within, sources, target, bindsBy, countBy, isStepBy, Marks, marks, hasCome, seenBy, mayCome, marked}
+use Rattle.queue.specs.Tables.{joined, joinedIf, within, Below, readsVa, readsBit, target, setIf, joinedAt, readersWith, writersWith, boundTo, countBy, isStepBy, Marks, marks, hasCome, seenBy, mayCome, marked}
 use Rattle.queue.proofs.Accepting.{both}
 
 -- a shift in the code is a power
@@ -24,36 +23,64 @@ shifted s k h = ap (bitOr s) (one-shifted k 64 h)
 pub joins : (t : Bool) (s k : ℕ) → k < 64 → t ≡ true → bitOr s (1 * 2 ^ k % 18446744073709551616) ≡ joinedIf t s k
 joins t s k h e = shifted s k h ∙ ap (λ (b : Bool). joinedIf b s k) (sym e)
 
-module _ (ins : Instruction) (i : Bool) (iota : i ≡ isIota (kindOf (ins .work))) where
-  abbrev plain : ℕ
-  plain = joinedIf (ins .moe || isMerge (kindOf (ins .work))) (joinedIf (not (ins .scalar) && not (isConvert (ins .work))) (2 ^ (ins .vb .0)) (ins .va .0)) 16
+pub joins-at : (table : List ℕ) (s p : ℕ) → p < 64 → set table s (bitOr (getD table s 0) (1 * 2 ^ p % 18446744073709551616)) ≡ joinedAt true table s p
+joins-at table s p h = ap (set table s) (shifted (getD table s 0) p h)
 
-  pub sources-iota : i ≡ true → 65536 ≡ sources ins
-  sources-iota e = ap (λ (t : Bool). pick t 65536 plain) (sym e ∙ iota)
+pub reads-at : (t : Bool) (readers readers′ writers : List ℕ) (s p : ℕ) → t ≡ true → readers′ ≡ joinedAt true readers s p
+    → (getD writers s 0 ≡ setIf t writers s) × (readers′ ≡ joinedAt t readers s p)
+reads-at t readers readers′ writers s p e f = (ap (λ (b : Bool). setIf b writers s) (sym e), f ∙ ap (λ (b : Bool). joinedAt b readers s p) (sym e))
 
-  pub sources-plain : i ≡ false → ins .vb .0 < 64 → (convert merge : Bool) (registers r : ℕ)
-      → convert ≡ isConvert (ins .work)
-      → registers ≡ joinedIf (not (ins .scalar) && not convert) (1 * 2 ^ (ins .vb .0) % 18446744073709551616) (ins .va .0)
-      → merge ≡ isMerge (kindOf (ins .work))
-      → r ≡ joinedIf (ins .moe || merge) registers 16
-      → r ≡ sources ins
-  sources-plain e h convert merge registers r c g m k =
-      k
-      ∙ ap₂ (λ (x : Bool) (y : ℕ). joinedIf (ins .moe || x) y 16) m
-      (g ∙ ap₂ (λ (x : Bool) (y : ℕ). joinedIf (not (ins .scalar) && not x) y (ins .va .0)) c (one-shifted (ins .vb .0) 64 h))
-      ∙ ap (λ (t : Bool). pick t 65536 plain) (sym e ∙ iota)
+-- a choice, by its test
+takes : {A : Type 0} (b : Bool) (u v : A) → b ≡ true → u ≡ pick b u v
+takes b u v e = ap (λ (t : Bool). pick t u v) (sym e)
 
-pub target-compare : (ins : Instruction) (t : Bool) → t ≡ isCompare (kindOf (ins .work)) → t ≡ true → 16 ≡ target ins
-target-compare ins t e f = ap (λ (b : Bool). pick b 16 (ins .vc .0)) (sym f ∙ e)
+leaves : {A : Type 0} (b : Bool) (u v : A) → b ≡ false → v ≡ pick b u v
+leaves b u v e = ap (λ (t : Bool). pick t u v) (sym e)
 
-pub target-register : (ins : Instruction) (t : Bool) → t ≡ isCompare (kindOf (ins .work)) → t ≡ false → ins .vc .0 ≡ target ins
-target-register ins t e f = ap (λ (b : Bool). pick b 16 (ins .vc .0)) (sym f ∙ e)
+-- what a position is bound to
+module _ (ins : Instruction) (p t : ℕ) (readers writers : List ℕ) (at : t ≡ target ins) (i : Bool) (iota : i ≡ isIota (kindOf (ins .work))) where
+  abbrev Bound : ℕ → List ℕ → List ℕ → Type 0
+  Bound v r w = (v ≡ boundTo ins readers writers) × (r ≡ readersWith ins p readers) × (w ≡ writersWith ins p writers)
 
-pub bound-by : (iotas : ℕ) (s t : List ℕ) (k p : ℕ) (a b c d : Bool)
-    → a ≡ bit (getD s p 0) (getD t k 0) → b ≡ bit (getD s k 0) (getD t p 0) → c ≡ bit iotas k → d ≡ bit iotas p
-    → (eqb (getD t k 0) (getD t p 0) || a || b || c && d) ≡ bindsBy iotas s t k p
-unfolding bindsBy
-bound-by iotas s t k p a b c d e f g h = cc
+  pub binds-iota : i ≡ true → (m : ℕ) (r w w′ : List ℕ)
+      → (m ≡ setIf true writers 16) × (r ≡ joinedAt true readers 16 p)
+      → w ≡ joinedAt true writers t p → w′ ≡ joinedAt true w 17 p
+      → Bound (bitOr (bitOr (bitOr (getD writers t 0) m) (getD readers t 0)) (getD writers 17 0)) r w′
+  unfolding boundTo readersWith writersWith
+  binds-iota e m r w w′ mask first second =
+      let y : isIota (kindOf (ins .work)) ≡ true = sym iota ∙ e in (
+        ap₂ (λ (x z : ℕ). bitOr (bitOr (bitOr (getD writers x 0) z) (getD readers x 0)) (getD writers 17 0)) at (mask .0) ∙ takes _ _ _ y,
+        mask .1 ∙ takes _ _ _ y,
+        second ∙ ap (λ (l : List ℕ). joinedAt true l 17 p) (first ∙ ap (λ (x : ℕ). joinedAt true writers x p) at) ∙ takes _ _ _ y,
+      )
+
+  pub binds-plain : i ≡ false → (convert merge : Bool) (b a m : ℕ) (r₁ r₂ r₃ w : List ℕ)
+      → convert ≡ isConvert (ins .work) → merge ≡ isMerge (kindOf (ins .work))
+      → (b ≡ setIf true writers (ins .vb .0)) × (r₁ ≡ joinedAt true readers (ins .vb .0) p)
+      → (a ≡ setIf (not (ins .scalar) && not convert) writers (ins .va .0)) × (r₂ ≡ joinedAt (not (ins .scalar) && not convert) r₁ (ins .va .0) p)
+      → (m ≡ setIf (ins .moe || merge) writers 16) × (r₃ ≡ joinedAt (ins .moe || merge) r₂ 16 p)
+      → w ≡ joinedAt true writers t p
+      → Bound (bitOr (bitOr (getD writers t 0) (bitOr m (bitOr a b))) (getD readers t 0)) r₃ w
+  unfolding boundTo readersWith writersWith
+  binds-plain e convert merge b a m r₁ r₂ r₃ w c g vb va mask first =
+      let y : isIota (kindOf (ins .work)) ≡ false = sym iota ∙ e in
+      let v : (not (ins .scalar) && not convert) ≡ readsVa ins = ap (λ (x : Bool). not (ins .scalar) && not x) c in
+      let k : (ins .moe || merge) ≡ readsBit ins = ap (λ (x : Bool). ins .moe || x) g in (
+        ap (λ (x : ℕ). bitOr (bitOr (getD writers x 0) (bitOr m (bitOr a b))) (getD readers x 0)) at
+            ∙ ap₂ (λ (x z : ℕ). bitOr (bitOr (getD writers (target ins) 0) (bitOr x (bitOr z b))) (getD readers (target ins) 0)) (mask .0 ∙ ap (λ (x : Bool). setIf x writers 16) k) (va .0 ∙ ap (λ (x : Bool). setIf x writers (ins .va .0)) v)
+            ∙ ap (λ (x : ℕ). bitOr (bitOr (getD writers (target ins) 0) (bitOr (setIf (readsBit ins) writers 16) (bitOr (setIf (readsVa ins) writers (ins .va .0)) x))) (getD readers (target ins) 0)) (vb .0)
+            ∙ leaves _ _ _ y,
+        mask .1
+            ∙ ap₂ (λ (x : Bool) (l : List ℕ). joinedAt x l 16 p) k (va .1 ∙ ap₂ (λ (x : Bool) (l : List ℕ). joinedAt x l (ins .va .0) p) v (vb .1))
+            ∙ leaves _ _ _ y,
+        first ∙ ap (λ (x : ℕ). joinedAt true writers x p) at ∙ leaves _ _ _ y,
+      )
+
+pub target-compare : (ins : Instruction) (t : Bool) → t ≡ isCompare (kindOf (ins .work)) → t ≡ true → (16 ≡ target ins) × (16 < 17)
+target-compare ins t e f = (ap (λ (b : Bool). pick b 16 (ins .vc .0)) (sym f ∙ e), omega arith)
+
+pub target-register : (ins : Instruction) (t : Bool) → t ≡ isCompare (kindOf (ins .work)) → t ≡ false → Below ins → (ins .vc .0 ≡ target ins) × (ins .vc .0 < 17)
+target-register ins t e f s = (ap (λ (b : Bool). pick b 16 (ins .vc .0)) (sym f ∙ e), let h = s .vc in omega arith)
 
 -- ---- what an entry asks
 module _ (n vlr iotas x : ℕ) where

@@ -1,6 +1,6 @@
 -- What the check of an order list computes with: numbers and sets of positions that are made once for a queue, and what has come of each position.
 -- A set of positions is a number whose bit k says that position k is in it. No public promise cites this; proofs/Verdicts.antt proves that it is the check of specs/Order.antt.
-use mathlib.Core.Bool.{Bool, not, _&&_, _||_}
+use mathlib.Core.Bool.{Bool, true, false, not, _&&_, _||_}
 use mathlib.Core.List.{List}
 use Prim.Native.Nat.{ℕ, _+_, _*_, _^_, _<_}
 use lib.Dec.{ltb, eqb}
@@ -8,16 +8,19 @@ use lib.Bits.{bitOr}
 use lib.ListN.{getD, set}
 use Rattle.numbers.specs.Choice.{pick}
 use Rattle.numbers.specs.Bits.{bit, complement}
+use Rattle.state.specs.declared.Control.{Control}
+use Rattle.state.specs.Answer.{Answer, done, disabled, outOfRange}
+use Rattle.state.specs.State.{inRange, enabled}
 use Rattle.opcodes.specs.declared.Instruction.{Instruction}
 use Rattle.opcodes.specs.declared.Work.the-variants.{AddLongword}
 use Rattle.opcodes.specs.ControlWord.{instructionOf}
 use Rattle.machine.specs.Kind.{kindOf, isCompare, isMerge, isIota}
 use Rattle.machine.specs.Run.{Run}
 use Rattle.machine.specs.Instruction.{stepOf}
+use Rattle.queue.specs.Queue.{Queue, wellFormed, queueRefused}
 use Rattle.queue.specs.Order.{check}
 use Rattle.queue.specs.Touch.{position, element, passing, isConvert}
 use Rattle.queue.specs.declared.Verdict.{Verdict}
-use mathlib.Core.Bool.{false}
 
 -- position k joins a set
 abbrev pub joined : ℕ → ℕ → ℕ
@@ -40,25 +43,56 @@ pub record Below (ins : Instruction) : Type 0 where
   pub vb : ins .vb .0 < 16
   pub vc : ins .vc .0 < 16
 
--- ---- what an instruction touches
--- the set of the registers that it reads, and 16 where it reads mask bits
-abbrev pub sources : Instruction → ℕ
-sources ins =
+-- ---- what an instruction touches, by places: registers 0 to 15, the mask bits 16, the count 17
+-- it reads Va
+abbrev pub readsVa : Instruction → Bool
+readsVa ins = not (ins .scalar) && not (isConvert (ins .work))
+
+-- it reads the mask bit of its element
+abbrev pub readsBit : Instruction → Bool
+readsBit ins = ins .moe || isMerge (kindOf (ins .work))
+
+-- it reads the place
+abbrev pub readsPlace : Instruction → ℕ → Bool
+readsPlace ins s =
     pick (isIota (kindOf (ins .work)))
-    (2 ^ 16)
-    (joinedIf (ins .moe || isMerge (kindOf (ins .work))) (joinedIf (not (ins .scalar) && not (isConvert (ins .work))) (2 ^ (ins .vb .0)) (ins .va .0)) 16)
+    (eqb s 16)
+    (readsBit ins && eqb s 16 || (readsVa ins && eqb s (ins .va .0) || eqb s (ins .vb .0)))
 
 -- the register that it writes, or 16 where it writes mask bits
 abbrev pub target : Instruction → ℕ
 target ins = pick (isCompare (kindOf (ins .work))) 16 (ins .vc .0)
 
--- two instructions bind each other, from what they touch
-unfoldable pub bindsBy : ℕ → List ℕ → List ℕ → ℕ → ℕ → Bool
-bindsBy iotas sources targets k p =
-    eqb (getD targets k 0) (getD targets p 0)
-    || bit (getD sources p 0) (getD targets k 0)
-    || bit (getD sources k 0) (getD targets p 0)
-    || bit iotas k && bit iotas p
+-- ---- tables: for each place the set of the positions so far that read it, or write it
+abbrev pub setIf : Bool → List ℕ → ℕ → ℕ
+setIf t table s = pick t (getD table s 0) 0
+
+-- position p joins the set of a place
+abbrev pub joinedAt : Bool → List ℕ → ℕ → ℕ → List ℕ
+joinedAt t table s p = pick t (set table s (joined (getD table s 0) p)) table
+
+-- what one position more reads and writes
+unfoldable pub readersWith : Instruction → ℕ → List ℕ → List ℕ
+readersWith ins p readers =
+    pick (isIota (kindOf (ins .work)))
+    (joinedAt true readers 16 p)
+    (joinedAt (readsBit ins) (joinedAt (readsVa ins) (joinedAt true readers (ins .vb .0) p) (ins .va .0) p) 16 p)
+
+unfoldable pub writersWith : Instruction → ℕ → List ℕ → List ℕ
+writersWith ins p writers =
+    pick (isIota (kindOf (ins .work)))
+    (joinedAt true (joinedAt true writers (target ins) p) 17 p)
+    (joinedAt true writers (target ins) p)
+
+-- and the positions that it is bound to
+unfoldable pub boundTo : Instruction → List ℕ → List ℕ → ℕ
+boundTo ins readers writers =
+    pick (isIota (kindOf (ins .work)))
+    (bitOr (bitOr (bitOr (getD writers (target ins) 0) (getD writers 16 0)) (getD readers (target ins) 0)) (getD writers 17 0))
+    (bitOr
+    (bitOr (getD writers (target ins) 0)
+    (bitOr (setIf (readsBit ins) writers 16) (bitOr (setIf (readsVa ins) writers (ins .va .0)) (getD writers (ins .vb .0) 0))))
+    (getD readers (target ins) 0))
 
 -- ---- steps, from the size of the queue, VLR and the set of its IOTAs
 abbrev pub countBy : ℕ → ℕ → ℕ → ℕ
@@ -116,3 +150,7 @@ fullAtStart vlr iotas = pick (eqb vlr 0) (complement 64 iotas) 0
 -- ---- what a step of a decoded queue does
 unfoldable pub actBy : List Instruction → List ℕ → ℕ → Run → Run
 actBy program scalars x r = stepOf (decodedAt program (position x)) (getD scalars (position x) 0) (element x) r
+
+-- ---- the tests before the positions of a queue: 12, 8, then 3
+unfoldable pub standing : Control → Queue → Answer
+standing c q = pick (inRange c) (pick (wellFormed q) (pick (enabled c) (done 0) disabled) queueRefused) outOfRange

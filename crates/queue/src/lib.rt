@@ -8,6 +8,7 @@ ghost use Rattle.queue.specs.Reply.{queue, replyAnswer};
 ghost use Rattle.queue.specs.Run.{outcome, queueRun, orderedRun};
 
 mod acceptance;
+mod bound;
 mod order;
 mod program;
 mod runs;
@@ -85,12 +86,31 @@ pub fn run_order(
 ) -> Ran
     ensures { λ r. ⌜ outcome (replyAnswer (r .reply)) (state (now (elements .exit)) (r .control)) ≡ orderedRun (queue (now (opcodes .entry)) (now (cntrls .entry)) (now (scalars .entry))) (now (list .entry)) (state (now (elements .entry)) control) ⌝ }
 {
-    let reply = acceptance::accept(control, opcodes, cntrls, scalars);
-    if !is_done(reply) {
-        return Ran { reply, control };
+    let standing = acceptance::stand(control, opcodes, cntrls, scalars);
+    if !is_done(standing) {
+        return Ran {
+            reply: standing,
+            control,
+        };
     }
-    let program = program::program(opcodes, cntrls);
-    match order::verdict(program, opcodes.len(), control.vlr, list) {
+    let other = program::other();
+    let mut program = [other; 16];
+    let mut bound = [0u64; 16];
+    let mut readers = [0u64; 18];
+    let mut writers = [0u64; 18];
+    let mut k: usize = 0;
+    while k < opcodes.len() {
+        let position = acceptance::decode_at(k as u64, opcodes[k], cntrls[k]);
+        let reply = position.reply;
+        if !is_done(reply) {
+            return Ran { reply, control };
+        }
+        let instruction = position.instruction;
+        program[k] = instruction;
+        bound[k] = bound::bind(instruction, k, &mut readers, &mut writers);
+        k += 1;
+    }
+    match order::check(opcodes.len(), control.vlr, writers[17], &bound, list) {
         Verdict::Permitted => {
             let progress = runs::walk(elements, run::begin(control), program, scalars, list);
             Ran {

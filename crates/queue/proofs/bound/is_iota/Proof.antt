@@ -1,9 +1,9 @@
--- `is_merge` meets its contract, case by case. Assumes nothing.
+-- `is_iota` meets its contract, case by case. Assumes nothing.
 use mathlib.Core.Path.{sym, ap, _∙_}
 use borrow.Author.Needs.{needs}
-use Rattle.machine.specs.Kind.{isMerge}
-use Rattle.queue.proofs.order.is_merge.Statement.{statement}
-use Rattle.queue.proofs.order.is_merge.Tie as tie
+use Rattle.machine.specs.Kind.{isIota}
+use Rattle.queue.proofs.bound.is_iota.Statement.{statement}
+use Rattle.queue.proofs.bound.is_iota.Tie as tie
 
 kind-of-requires : tie.Need-kind-of-requires
 kind-of-requires c κs = search needs
@@ -25,26 +25,26 @@ enum-told-5 c = search needs
 
 returns : tie.Need-returns
 returns c =
-    ap isMerge (sym (c .enum-told .given .1) ∙ c .before .before .kind-of .ensures)
+    ap isIota (sym (c .enum-told .given .1) ∙ c .before .before .kind-of .ensures)
 
 returns-2 : tie.Need-returns-2
 returns-2 c =
-    ap isMerge (sym (c .enum-told2 .given .1) ∙ c .before .before .kind-of .ensures)
+    ap isIota (sym (c .enum-told2 .given .1) ∙ c .before .before .kind-of .ensures)
 
 returns-3 : tie.Need-returns-3
 returns-3 c =
-    ap isMerge (sym (c .enum-told3 .given .1) ∙ c .before .before .kind-of .ensures)
+    ap isIota (sym (c .enum-told3 .given .1) ∙ c .before .before .kind-of .ensures)
 
 returns-4 : tie.Need-returns-4
 returns-4 c =
-    ap isMerge (sym (c .enum-told4 .given .1) ∙ c .before .before .kind-of .ensures)
+    ap isIota (sym (c .enum-told4 .given .1) ∙ c .before .before .kind-of .ensures)
 
 returns-5 : tie.Need-returns-5
 returns-5 c =
-    ap isMerge (sym (c .enum-told5 .given .1) ∙ c .before .before .kind-of .ensures)
+    ap isIota (sym (c .enum-told5 .given .1) ∙ c .before .before .kind-of .ensures)
 
-pub is-merge-spec : {M : Type 1} → statement M
-is-merge-spec =
+pub is-iota-spec : {M : Type 1} → statement M
+is-iota-spec =
     tie.close
     (tie.spec
     kind-of-requires

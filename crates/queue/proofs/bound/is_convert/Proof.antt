@@ -3,8 +3,8 @@ use mathlib.Core.Path.{ap}
 use Prim.Native.Nat.{ℕ}
 use lib.Dec.{eqb}
 use borrow.Author.Needs.{needs}
-use Rattle.queue.proofs.order.is_convert.Statement.{statement}
-use Rattle.queue.proofs.order.is_convert.Tie as tie
+use Rattle.queue.proofs.bound.is_convert.Statement.{statement}
+use Rattle.queue.proofs.bound.is_convert.Tie as tie
 
 code-requires : tie.Need-code-requires
 code-requires c κs = search needs

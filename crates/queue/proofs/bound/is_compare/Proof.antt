@@ -2,8 +2,8 @@
 use mathlib.Core.Path.{sym, ap, _∙_}
 use borrow.Author.Needs.{needs}
 use Rattle.machine.specs.Kind.{isCompare}
-use Rattle.queue.proofs.order.is_compare.Statement.{statement}
-use Rattle.queue.proofs.order.is_compare.Tie as tie
+use Rattle.queue.proofs.bound.is_compare.Statement.{statement}
+use Rattle.queue.proofs.bound.is_compare.Tie as tie
 
 kind-of-requires : tie.Need-kind-of-requires
 kind-of-requires c κs = search needs

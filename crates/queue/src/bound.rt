@@ -1,0 +1,125 @@
+// What each position of a queue is bound to. A set is a number whose bit k says that position k is in it; a table has the set of the positions so
+// far that read, or write, each place: registers 0 to 15, the mask bits 16, the count 17.
+use element;
+use machine;
+use machine::Kind;
+use opcodes::Instruction;
+use opcodes::Work;
+ghost use mathlib.Core.Path.{_≡_};
+ghost use mathlib.Core.Bool.{true};
+ghost use Prim.Native.Nat.{_<_};
+ghost use Rattle.machine.specs.Kind.{kindOf, isCompare, isMerge, isIota};
+ghost use Rattle.queue.specs.Touch.{isConvert};
+ghost use Rattle.queue.specs.Tables.{target as targetOf, Below, setIf, joinedAt, boundTo, readersWith, writersWith};
+
+fn is_iota(work: Work) -> bool
+    ensures { λ r. ⌜ r ≡ isIota (kindOf work) ⌝ }
+{
+    match machine::kind_of(work) {
+        Kind::Element => false,
+        Kind::Merge => false,
+        Kind::Compare => false,
+        Kind::Iota => true,
+        Kind::Memory => false,
+    }
+}
+
+fn is_merge(work: Work) -> bool
+    ensures { λ r. ⌜ r ≡ isMerge (kindOf work) ⌝ }
+{
+    match machine::kind_of(work) {
+        Kind::Element => false,
+        Kind::Merge => true,
+        Kind::Compare => false,
+        Kind::Iota => false,
+        Kind::Memory => false,
+    }
+}
+
+fn is_compare(work: Work) -> bool
+    ensures { λ r. ⌜ r ≡ isCompare (kindOf work) ⌝ }
+{
+    match machine::kind_of(work) {
+        Kind::Element => false,
+        Kind::Merge => false,
+        Kind::Compare => true,
+        Kind::Iota => false,
+        Kind::Memory => false,
+    }
+}
+
+fn is_convert(work: Work) -> bool
+    ensures { λ r. ⌜ r ≡ isConvert work ⌝ }
+{
+    element::code(work) == 14
+}
+
+// The register that an instruction writes, or 16 where it writes mask bits.
+fn target(instruction: Instruction) -> u64
+    requires { ⌜ Below instruction ⌝ }
+    ensures { λ r. ⌜ (r ≡ targetOf instruction) × (r < 17) ⌝ }
+{
+    let work = instruction.work;
+    if is_compare(work) {
+        16
+    } else {
+        instruction.vc.0 as u64
+    }
+}
+
+// Position p joins the set of a place.
+fn join(table: &mut [u64; 18], place: usize, p: usize)
+    requires { ⌜ (place < 18) × (p < 64) ⌝ }
+    ensures { λ r. ⌜ now (table .exit) ≡ joinedAt true (now (table .entry)) place p ⌝ }
+{
+    table[place] = table[place] | (1 << p);
+}
+
+// Position p reads a place where the test says so: the positions that have written it.
+fn read(test: bool, place: usize, p: usize, readers: &mut [u64; 18], writers: &[u64; 18]) -> u64
+    requires { ⌜ (place < 18) × (p < 64) ⌝ }
+    ensures { λ r. ⌜ (r ≡ setIf test (now (writers .entry)) place) × (now (readers .exit) ≡ joinedAt test (now (readers .entry)) place p) ⌝ }
+{
+    if test {
+        join(&mut *readers, place, p);
+        writers[place]
+    } else {
+        0
+    }
+}
+
+// The positions so far that p is bound to. It joins the sets of what it reads and writes.
+pub fn bind(
+    instruction: Instruction,
+    p: usize,
+    readers: &mut [u64; 18],
+    writers: &mut [u64; 18],
+) -> u64
+    requires { ⌜ Below instruction × (p < 64) ⌝ }
+    ensures { λ r. ⌜ (r ≡ boundTo instruction (now (readers .entry)) (now (writers .entry))) × (now (readers .exit) ≡ readersWith instruction p (now (readers .entry))) × (now (writers .exit) ≡ writersWith instruction p (now (writers .entry))) ⌝ }
+{
+    let work = instruction.work;
+    let place = target(instruction) as usize;
+    let before = readers[place];
+    let wrote = writers[place];
+    if is_iota(work) {
+        let mask = read(true, 16, p, &mut *readers, &*writers);
+        let count = writers[17];
+        join(&mut *writers, place, p);
+        join(&mut *writers, 17, p);
+        return wrote | mask | before | count;
+    }
+    let vb = read(true, instruction.vb.0 as usize, p, &mut *readers, &*writers);
+    let vector = !instruction.scalar & !is_convert(work);
+    let va = read(
+        vector,
+        instruction.va.0 as usize,
+        p,
+        &mut *readers,
+        &*writers,
+    );
+    let masked = instruction.moe | is_merge(work);
+    let mask = read(masked, 16, p, &mut *readers, &*writers);
+    join(&mut *writers, place, p);
+    wrote | (mask | (va | vb)) | before
+}
