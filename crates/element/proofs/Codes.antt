@@ -1,6 +1,6 @@
 -- A work's number stands for that work. Assumes nothing.
-use mathlib.Core.Path.{_≡_, refl}
-use mathlib.Core.Bool.{Bool, true, false, cond}
+use mathlib.Core.Path.{_≡_, refl, sym, ap, subst, _∙_}
+use mathlib.Core.Bool.{Bool, true, false, cond, _||_}
 use mathlib.Core.Logic.{_⊎_, inl, inr}
 use mathlib.Core.List.{List, [], _∷_}
 use Prim.Native.Nat.{ℕ, zero, suc}
@@ -9,11 +9,14 @@ use Rattle.opcodes.specs.declared.Work.{Work}
 use Rattle.opcodes.specs.declared.Work.the-variants.{AddLongword, SubtractLongword, MultiplyLongword, CompareLongword, BitSet, ExclusiveOr, BitClear, ShiftRight, ShiftLeft, AddF, SubtractF, MultiplyF, CompareF, Convert, Iota, Merge, LoadLongword, LoadQuadword, StoreLongword, StoreQuadword}
 use Rattle.opcodes.specs.WorkNumbers.{workNumber}
 use lib.Dec.{eqb}
+use borrow.Author.Tests.{eqb-true}
 use Rattle.numbers.specs.Choice.{pick}
 use Rattle.numbers.specs.Halves.{low}
+use Rattle.numbers.proofs.Tests.{true-not-false}
 use Rattle.floating.specs.Format.{F, isReserved}
+use Rattle.floating.specs.Operations.{answered, sum, difference}
 use Rattle.floating.specs.declared.Compared.{Compared}
-use Rattle.element.specs.Receives.{coded, quiet, resultOf}
+use Rattle.element.specs.Receives.{coded, quiet, floatingOut, resultOf}
 use Rattle.element.specs.Groups.{shortWork, floatingWork, compareWork}
 
 pub coded-number : (w : Work) → coded (workNumber w) ≡ w
@@ -44,12 +47,9 @@ abbrev pub NoneOf : ℕ → List ℕ → Type 0
 NoneOf n [] = Unit {0}
 NoneOf n (k ∷ ks) = NoneOf n ks × (n ≡ k → ⊥)
 
--- the numbers of the short works, and of the floating works that write elements
+-- the numbers of the short works
 abbrev pub shortNumbers : List ℕ
 shortNumbers = 16 ∷ 9 ∷ 8 ∷ 7 ∷ 6 ∷ 5 ∷ 3 ∷ 2 ∷ 1 ∷ []
-
-abbrev pub floatingNumbers : List ℕ
-floatingNumbers = 14 ∷ 12 ∷ 11 ∷ 10 ∷ []
 
 -- no other number is one
 pub no-short : (n : ℕ) → NoneOf n shortNumbers → (exc matches : Bool) (a b c : ℕ) → quiet c ≡ resultOf (shortWork n) exc 0 matches a b c
@@ -73,51 +73,63 @@ no-short (suc (suc (suc (suc (suc (suc (suc (suc (suc (suc (suc (suc (suc (suc (
 no-short (suc (suc (suc (suc (suc (suc (suc (suc (suc (suc (suc (suc (suc (suc (suc (suc zero)))))))))))))))) r exc matches a b c = absurd (r .1 refl)
 no-short (suc (suc (suc (suc (suc (suc (suc (suc (suc (suc (suc (suc (suc (suc (suc (suc (suc n))))))))))))))))) r exc matches a b c = refl
 
-pub no-floating : (n : ℕ) → NoneOf n floatingNumbers → (exc : Bool) (field a b c : ℕ) → quiet c ≡ resultOf (floatingWork n) exc field false a b c
+-- floating arithmetic: sum and difference
+pub is-total : (n : ℕ) → (eqb n 10 || eqb n 11) ≡ true → (exc : Bool) (a b c : ℕ)
+    → floatingOut c (answered exc (cond (eqb n 11) (difference F (low a) (low b)) (sum F (low a) (low b)))) ≡ resultOf (floatingWork n) exc 0 false a b c
 unfolding floatingWork resultOf
-no-floating zero r exc field a b c = refl
-no-floating (suc zero) r exc field a b c = refl
-no-floating (suc (suc zero)) r exc field a b c = refl
-no-floating (suc (suc (suc zero))) r exc field a b c = refl
-no-floating (suc (suc (suc (suc zero)))) r exc field a b c = refl
-no-floating (suc (suc (suc (suc (suc zero))))) r exc field a b c = refl
-no-floating (suc (suc (suc (suc (suc (suc zero)))))) r exc field a b c = refl
-no-floating (suc (suc (suc (suc (suc (suc (suc zero))))))) r exc field a b c = refl
-no-floating (suc (suc (suc (suc (suc (suc (suc (suc zero)))))))) r exc field a b c = refl
-no-floating (suc (suc (suc (suc (suc (suc (suc (suc (suc zero))))))))) r exc field a b c = refl
-no-floating (suc (suc (suc (suc (suc (suc (suc (suc (suc (suc zero)))))))))) r exc field a b c = absurd (r .0 .0 .0 .1 refl)
-no-floating (suc (suc (suc (suc (suc (suc (suc (suc (suc (suc (suc zero))))))))))) r exc field a b c = absurd (r .0 .0 .1 refl)
-no-floating (suc (suc (suc (suc (suc (suc (suc (suc (suc (suc (suc (suc zero)))))))))))) r exc field a b c = absurd (r .0 .1 refl)
-no-floating (suc (suc (suc (suc (suc (suc (suc (suc (suc (suc (suc (suc (suc zero))))))))))))) r exc field a b c = refl
-no-floating (suc (suc (suc (suc (suc (suc (suc (suc (suc (suc (suc (suc (suc (suc zero)))))))))))))) r exc field a b c = absurd (r .1 refl)
-no-floating (suc (suc (suc (suc (suc (suc (suc (suc (suc (suc (suc (suc (suc (suc (suc n))))))))))))))) r exc field a b c = refl
+is-total n e exc a b c = at (eqb n 10) refl
+  where
+    of : ℕ → Type 0
+    of k = floatingOut c (answered exc (cond (eqb k 11) (difference F (low a) (low b)) (sum F (low a) (low b)))) ≡ resultOf (floatingWork k) exc 0 false a b c
 
--- what is no short work and no compare is a floating work, or leaves an element as it was
-pub is-floating : (n : ℕ) → NoneOf n shortNumbers → (n ≡ 4 → ⊥) → (n ≡ 13 → ⊥) → (exc : Bool) (field : ℕ) (matches : Bool) (a b c : ℕ)
-    → resultOf (floatingWork n) exc field false a b c ≡ resultOf (coded n) exc field matches a b c
+    at : (t : Bool) → eqb n 10 ≡ t → of n
+    at true q = subst of (sym (eqb-true n 10 q)) refl
+    at false q = subst of (sym (eqb-true n 11 (sym (ap (λ (t : Bool). t || eqb n 11) q) ∙ e))) refl
+
+-- no other number is one
+pub no-arithmetic : (n : ℕ) → (n ≡ 12 → ⊥) → (eqb n 10 || eqb n 11) ≡ false → (exc : Bool) (a b c : ℕ) → quiet c ≡ resultOf (floatingWork n) exc 0 false a b c
+unfolding floatingWork resultOf
+no-arithmetic zero f g exc a b c = refl
+no-arithmetic (suc zero) f g exc a b c = refl
+no-arithmetic (suc (suc zero)) f g exc a b c = refl
+no-arithmetic (suc (suc (suc zero))) f g exc a b c = refl
+no-arithmetic (suc (suc (suc (suc zero)))) f g exc a b c = refl
+no-arithmetic (suc (suc (suc (suc (suc zero))))) f g exc a b c = refl
+no-arithmetic (suc (suc (suc (suc (suc (suc zero)))))) f g exc a b c = refl
+no-arithmetic (suc (suc (suc (suc (suc (suc (suc zero))))))) f g exc a b c = refl
+no-arithmetic (suc (suc (suc (suc (suc (suc (suc (suc zero)))))))) f g exc a b c = refl
+no-arithmetic (suc (suc (suc (suc (suc (suc (suc (suc (suc zero))))))))) f g exc a b c = refl
+no-arithmetic (suc (suc (suc (suc (suc (suc (suc (suc (suc (suc zero)))))))))) f g exc a b c = absurd (true-not-false (sym g))
+no-arithmetic (suc (suc (suc (suc (suc (suc (suc (suc (suc (suc (suc zero))))))))))) f g exc a b c = absurd (true-not-false (sym g))
+no-arithmetic (suc (suc (suc (suc (suc (suc (suc (suc (suc (suc (suc (suc zero)))))))))))) f g exc a b c = absurd (f refl)
+no-arithmetic (suc (suc (suc (suc (suc (suc (suc (suc (suc (suc (suc (suc (suc n))))))))))))) f g exc a b c = refl
+
+-- what is no short work, no compare and no convert is floating arithmetic, or leaves an element as it was
+pub is-floating : (n : ℕ) → NoneOf n shortNumbers → (n ≡ 4 → ⊥) → (n ≡ 13 → ⊥) → (n ≡ 14 → ⊥) → (exc : Bool) (field : ℕ) (matches : Bool) (a b c : ℕ)
+    → resultOf (floatingWork n) exc 0 false a b c ≡ resultOf (coded n) exc field matches a b c
 unfolding coded floatingWork resultOf
-is-floating zero r f g exc field matches a b c = refl
-is-floating (suc zero) r f g exc field matches a b c = absurd (r .0 .0 .0 .0 .0 .0 .0 .0 .1 refl)
-is-floating (suc (suc zero)) r f g exc field matches a b c = absurd (r .0 .0 .0 .0 .0 .0 .0 .1 refl)
-is-floating (suc (suc (suc zero))) r f g exc field matches a b c = absurd (r .0 .0 .0 .0 .0 .0 .1 refl)
-is-floating (suc (suc (suc (suc zero)))) r f g exc field matches a b c = absurd (f refl)
-is-floating (suc (suc (suc (suc (suc zero))))) r f g exc field matches a b c = absurd (r .0 .0 .0 .0 .0 .1 refl)
-is-floating (suc (suc (suc (suc (suc (suc zero)))))) r f g exc field matches a b c = absurd (r .0 .0 .0 .0 .1 refl)
-is-floating (suc (suc (suc (suc (suc (suc (suc zero))))))) r f g exc field matches a b c = absurd (r .0 .0 .0 .1 refl)
-is-floating (suc (suc (suc (suc (suc (suc (suc (suc zero)))))))) r f g exc field matches a b c = absurd (r .0 .0 .1 refl)
-is-floating (suc (suc (suc (suc (suc (suc (suc (suc (suc zero))))))))) r f g exc field matches a b c = absurd (r .0 .1 refl)
-is-floating (suc (suc (suc (suc (suc (suc (suc (suc (suc (suc zero)))))))))) r f g exc field matches a b c = refl
-is-floating (suc (suc (suc (suc (suc (suc (suc (suc (suc (suc (suc zero))))))))))) r f g exc field matches a b c = refl
-is-floating (suc (suc (suc (suc (suc (suc (suc (suc (suc (suc (suc (suc zero)))))))))))) r f g exc field matches a b c = refl
-is-floating (suc (suc (suc (suc (suc (suc (suc (suc (suc (suc (suc (suc (suc zero))))))))))))) r f g exc field matches a b c = absurd (g refl)
-is-floating (suc (suc (suc (suc (suc (suc (suc (suc (suc (suc (suc (suc (suc (suc zero)))))))))))))) r f g exc field matches a b c = refl
-is-floating (suc (suc (suc (suc (suc (suc (suc (suc (suc (suc (suc (suc (suc (suc (suc zero))))))))))))))) r f g exc field matches a b c = refl
-is-floating (suc (suc (suc (suc (suc (suc (suc (suc (suc (suc (suc (suc (suc (suc (suc (suc zero)))))))))))))))) r f g exc field matches a b c = absurd (r .1 refl)
-is-floating (suc (suc (suc (suc (suc (suc (suc (suc (suc (suc (suc (suc (suc (suc (suc (suc (suc zero))))))))))))))))) r f g exc field matches a b c = refl
-is-floating (suc (suc (suc (suc (suc (suc (suc (suc (suc (suc (suc (suc (suc (suc (suc (suc (suc (suc zero)))))))))))))))))) r f g exc field matches a b c = refl
-is-floating (suc (suc (suc (suc (suc (suc (suc (suc (suc (suc (suc (suc (suc (suc (suc (suc (suc (suc (suc zero))))))))))))))))))) r f g exc field matches a b c = refl
-is-floating (suc (suc (suc (suc (suc (suc (suc (suc (suc (suc (suc (suc (suc (suc (suc (suc (suc (suc (suc (suc zero)))))))))))))))))))) r f g exc field matches a b c = refl
-is-floating (suc (suc (suc (suc (suc (suc (suc (suc (suc (suc (suc (suc (suc (suc (suc (suc (suc (suc (suc (suc (suc n))))))))))))))))))))) r f g exc field matches a b c = refl
+is-floating zero r f g h exc field matches a b c = refl
+is-floating (suc zero) r f g h exc field matches a b c = absurd (r .0 .0 .0 .0 .0 .0 .0 .0 .1 refl)
+is-floating (suc (suc zero)) r f g h exc field matches a b c = absurd (r .0 .0 .0 .0 .0 .0 .0 .1 refl)
+is-floating (suc (suc (suc zero))) r f g h exc field matches a b c = absurd (r .0 .0 .0 .0 .0 .0 .1 refl)
+is-floating (suc (suc (suc (suc zero)))) r f g h exc field matches a b c = absurd (f refl)
+is-floating (suc (suc (suc (suc (suc zero))))) r f g h exc field matches a b c = absurd (r .0 .0 .0 .0 .0 .1 refl)
+is-floating (suc (suc (suc (suc (suc (suc zero)))))) r f g h exc field matches a b c = absurd (r .0 .0 .0 .0 .1 refl)
+is-floating (suc (suc (suc (suc (suc (suc (suc zero))))))) r f g h exc field matches a b c = absurd (r .0 .0 .0 .1 refl)
+is-floating (suc (suc (suc (suc (suc (suc (suc (suc zero)))))))) r f g h exc field matches a b c = absurd (r .0 .0 .1 refl)
+is-floating (suc (suc (suc (suc (suc (suc (suc (suc (suc zero))))))))) r f g h exc field matches a b c = absurd (r .0 .1 refl)
+is-floating (suc (suc (suc (suc (suc (suc (suc (suc (suc (suc zero)))))))))) r f g h exc field matches a b c = refl
+is-floating (suc (suc (suc (suc (suc (suc (suc (suc (suc (suc (suc zero))))))))))) r f g h exc field matches a b c = refl
+is-floating (suc (suc (suc (suc (suc (suc (suc (suc (suc (suc (suc (suc zero)))))))))))) r f g h exc field matches a b c = refl
+is-floating (suc (suc (suc (suc (suc (suc (suc (suc (suc (suc (suc (suc (suc zero))))))))))))) r f g h exc field matches a b c = absurd (g refl)
+is-floating (suc (suc (suc (suc (suc (suc (suc (suc (suc (suc (suc (suc (suc (suc zero)))))))))))))) r f g h exc field matches a b c = absurd (h refl)
+is-floating (suc (suc (suc (suc (suc (suc (suc (suc (suc (suc (suc (suc (suc (suc (suc zero))))))))))))))) r f g h exc field matches a b c = refl
+is-floating (suc (suc (suc (suc (suc (suc (suc (suc (suc (suc (suc (suc (suc (suc (suc (suc zero)))))))))))))))) r f g h exc field matches a b c = absurd (r .1 refl)
+is-floating (suc (suc (suc (suc (suc (suc (suc (suc (suc (suc (suc (suc (suc (suc (suc (suc (suc zero))))))))))))))))) r f g h exc field matches a b c = refl
+is-floating (suc (suc (suc (suc (suc (suc (suc (suc (suc (suc (suc (suc (suc (suc (suc (suc (suc (suc zero)))))))))))))))))) r f g h exc field matches a b c = refl
+is-floating (suc (suc (suc (suc (suc (suc (suc (suc (suc (suc (suc (suc (suc (suc (suc (suc (suc (suc (suc zero))))))))))))))))))) r f g h exc field matches a b c = refl
+is-floating (suc (suc (suc (suc (suc (suc (suc (suc (suc (suc (suc (suc (suc (suc (suc (suc (suc (suc (suc (suc zero)))))))))))))))))))) r f g h exc field matches a b c = refl
+is-floating (suc (suc (suc (suc (suc (suc (suc (suc (suc (suc (suc (suc (suc (suc (suc (suc (suc (suc (suc (suc (suc n))))))))))))))))))))) r f g h exc field matches a b c = refl
 
 -- a compare ignores EXC, the mask bit and Vc
 pub compare-ignores : (n : ℕ) (exc : Bool) (relation : ℕ) (matches : Bool) (a b c : ℕ) → resultOf (compareWork n) false relation false a b 0 ≡ resultOf (compareWork n) exc relation matches a b c

@@ -1,4 +1,4 @@
--- The works of one element in three groups, each done by a function of its own: integer, logical and shift works and merge, which are short; compares; and the others. No public promise cites
+-- The works of one element in groups, each done by a function of its own: integer, logical and shift works and merge, which are short; floating arithmetic; convert; and compares. No public promise cites
 -- this.
 use mathlib.Core.List.{[], _∷_}
 use Prim.Native.Nat.{ℕ}
@@ -6,7 +6,7 @@ use lib.Dec.{eqb}
 use lib.ListN.{getD}
 use Rattle.numbers.specs.Choice.{pick}
 use Rattle.opcodes.specs.declared.Work.{Work}
-use Rattle.opcodes.specs.declared.Work.the-variants.{AddLongword, SubtractLongword, MultiplyLongword, CompareLongword, BitSet, ExclusiveOr, BitClear, ShiftRight, ShiftLeft, AddF, SubtractF, MultiplyF, CompareF, Convert, Iota, Merge}
+use Rattle.opcodes.specs.declared.Work.the-variants.{AddLongword, SubtractLongword, MultiplyLongword, CompareLongword, BitSet, ExclusiveOr, BitClear, ShiftRight, ShiftLeft, AddF, SubtractF, MultiplyF, CompareF, Iota, Merge}
 
 -- the short work of a number; Iota, which leaves an element as it was, stands for none
 unfoldable pub shortWork : ℕ → Work
@@ -33,7 +33,7 @@ shortWork n =
     n
     Iota
 
--- the floating work of a number, likewise
+-- the floating arithmetic of a number, likewise
 unfoldable pub floatingWork : ℕ → Work
 floatingWork n =
     getD
@@ -50,8 +50,6 @@ floatingWork n =
     ∷ AddF
     ∷ SubtractF
     ∷ MultiplyF
-    ∷ Iota
-    ∷ Convert
     ∷ [])
     n
     Iota

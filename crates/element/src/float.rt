@@ -2,6 +2,7 @@
 use crate::Out;
 use numbers::halves;
 ghost use mathlib.Core.Path.{_≡_};
+ghost use mathlib.Core.Bool.{cond};
 ghost use Rattle.numbers.specs.Halves.{low};
 ghost use Rattle.floating.specs.Format.{F};
 ghost use Rattle.floating.specs.Operations.{answered, sum, difference, product, compared};
@@ -24,16 +25,11 @@ fn place(c: u64, x: floating::Answer) -> Out
     }
 }
 
-pub fn add(exc: bool, a: u64, b: u64, c: u64) -> Out
-    ensures { λ r. ⌜ r ≡ floatingOut c (answered exc (sum F (low a) (low b))) ⌝ }
+// The difference, or the sum.
+pub fn total(minus: bool, exc: bool, a: u64, b: u64, c: u64) -> Out
+    ensures { λ r. ⌜ r ≡ floatingOut c (answered exc (cond minus (difference F (low a) (low b)) (sum F (low a) (low b)))) ⌝ }
 {
-    place(c, floating::add(word(a), word(b), exc))
-}
-
-pub fn subtract(exc: bool, a: u64, b: u64, c: u64) -> Out
-    ensures { λ r. ⌜ r ≡ floatingOut c (answered exc (difference F (low a) (low b))) ⌝ }
-{
-    place(c, floating::subtract(word(a), word(b), exc))
+    place(c, floating::total(minus, word(a), word(b), exc))
 }
 
 pub fn multiply(exc: bool, a: u64, b: u64, c: u64) -> Out

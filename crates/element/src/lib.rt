@@ -2,6 +2,7 @@
 use opcodes::Work;
 ghost use mathlib.Core.Path.{_≡_};
 ghost use Rattle.numbers.specs.Choice.{pick};
+ghost use Rattle.opcodes.specs.declared.Work.the-variants.{Convert};
 ghost use Rattle.opcodes.specs.WorkNumbers.{workNumber};
 ghost use mathlib.Core.Bool.{false};
 ghost use Rattle.element.specs.Receives.{quiet as quietOut, bitOut, resultOf};
@@ -54,17 +55,24 @@ pub fn short(code: u8, exc: bool, matches: bool, a: u64, b: u64, c: u64) -> Out
     }
 }
 
-// A floating work of one element that writes an element.
-pub fn floating_result(code: u8, exc: bool, field: u64, a: u64, b: u64, c: u64) -> Out
-    ensures { λ r. ⌜ r ≡ resultOf (floatingWork code) exc field false a b c ⌝ }
+// Floating arithmetic of one element. One call serves sum and difference, so that the compiler can put it into the loop.
+pub fn arithmetic(code: u8, exc: bool, a: u64, b: u64, c: u64) -> Out
+    ensures { λ r. ⌜ r ≡ resultOf (floatingWork code) exc 0 false a b c ⌝ }
 {
-    match code {
-        10 => float::add(exc, a, b, c),
-        11 => float::subtract(exc, a, b, c),
-        12 => float::multiply(exc, a, b, c),
-        14 => float::convert(field, exc, b, c),
-        _ => quiet(c),
+    if code == 12 {
+        return float::multiply(exc, a, b, c);
     }
+    if (code == 10) | (code == 11) {
+        return float::total(code == 11, exc, a, b, c);
+    }
+    quiet(c)
+}
+
+// The conversion of one element.
+pub fn converted(exc: bool, conversion: u64, b: u64, c: u64) -> Out
+    ensures { λ r. ⌜ r ≡ resultOf Convert exc conversion false 0 b c ⌝ }
+{
+    float::convert(conversion, exc, b, c)
 }
 
 // The compare of one element: longword, or F.

@@ -9,6 +9,7 @@ mod sum;
 mod word;
 
 ghost use mathlib.Core.Path.{_≡_};
+ghost use mathlib.Core.Bool.{cond};
 ghost use Rattle.floating.specs.Format.{F};
 ghost use Rattle.floating.specs.Reading.{Shows, longwordReading, kindOf, bitsOf};
 ghost use Rattle.floating.specs.Operations.{answered, sum, difference, product, compared, roundedLongword, truncatedLongword, fromLongword};
@@ -58,6 +59,18 @@ pub fn subtract(a: u32, b: u32, exc: bool) -> Answer
     ensures { λ r. ⌜ r ≡ answered exc (difference F a b) ⌝ }
 {
     let r = sum::of_words(exc, a, 1 - word::sign_of(b), b);
+    Answer {
+        value: r.value,
+        types: r.types,
+    }
+}
+
+// a minus b, or a plus b
+pub fn total(minus: bool, a: u32, b: u32, exc: bool) -> Answer
+    ensures { λ r. ⌜ r ≡ answered exc (cond minus (difference F a b) (sum F a b)) ⌝ }
+{
+    let s = word::sign_of(b);
+    let r = sum::of_words(exc, a, word::chosen(minus, 1 - s, s), b);
     Answer {
         value: r.value,
         types: r.types,

@@ -9,7 +9,7 @@ use Rattle.element.specs.declared.Out.{Out}
 use Rattle.element.specs.Receives.{resultOf, coded}
 use Rattle.element.specs.Groups.{shortWork}
 use Rattle.element.proofs.Codes.{NoneOf, shortNumbers, is-floating}
-use Rattle.machine.specs.Loops.{operandAt, Lanes, landed, laneWorked, laneStep, shortAt, floatingAt, workAt}
+use Rattle.machine.specs.Loops.{operandAt, Lanes, landed, laneWorked, laneStep, shortAt, floatingAt, convertAt, workAt}
 use Rattle.state.specs.Elements.{at}
 
 module _ (w : ℕ → ℕ → ℕ → ℕ → Out) (scalar : Bool) (x va vb vc : ℕ) where
@@ -45,5 +45,11 @@ module _ (code : ℕ) (exc : Bool) (field mask : ℕ) (scalar : Bool) (x va vb v
   pub short-chosen : s ≡ rising (ofOnes (laneStep (shortAt code exc mask) scalar x va vb vc) which) 64 s₀ → IsShort → Made
   short-chosen e same = by-set (shortAt code exc mask) scalar x va vb vc (workAt code exc field mask) (λ i a b c. same (bit mask i) a b c) which s₀ s e
 
-  pub floating-chosen : s ≡ rising (ofOnes (laneStep (floatingAt code exc field) scalar x va vb vc) which) 64 s₀ → NoneOf code shortNumbers → (code ≡ 4 → ⊥) → (code ≡ 13 → ⊥) → Made
-  floating-chosen e r f g = by-set (floatingAt code exc field) scalar x va vb vc (workAt code exc field mask) (λ i a b c. is-floating code r f g exc field (bit mask i) a b c) which s₀ s e
+  pub floating-chosen : s ≡ rising (ofOnes (laneStep (floatingAt code exc) scalar x va vb vc) which) 64 s₀ → NoneOf code shortNumbers → (code ≡ 4 → ⊥) → (code ≡ 13 → ⊥) → (code ≡ 14 → ⊥) → Made
+  floating-chosen e r f g h = by-set (floatingAt code exc) scalar x va vb vc (workAt code exc field mask) (λ i a b c. is-floating code r f g h exc field (bit mask i) a b c) which s₀ s e
+
+-- convert, which has no first operand
+pub convert-chosen : (exc : Bool) (field mask : ℕ) (scalar : Bool) (x va vb vc which : ℕ) (s₀ s : Lanes) → s ≡ rising (ofOnes (laneWorked (convertAt exc field) 0 vb vc) which) 64 s₀
+    → s ≡ rising (ofOnes (laneStep (workAt 14 exc field mask) scalar x va vb vc) which) 64 s₀
+unfolding laneStep laneWorked resultOf coded
+convert-chosen exc field mask scalar x va vb vc which s₀ s e = e ∙ ones-alike (laneWorked (convertAt exc field) 0 vb vc) (laneStep (workAt 14 exc field mask) scalar x va vb vc) which 64 s₀ (λ i y _. refl)

@@ -11,6 +11,7 @@ use Rattle.numbers.specs.Rising.{rising, ofOnes}
 use Rattle.state.specs.State.{placeOf}
 use Rattle.state.specs.Elements.{at}
 use Rattle.opcodes.specs.declared.Instruction.{Instruction}
+use Rattle.opcodes.specs.declared.Work.the-variants.{Convert}
 use Rattle.element.specs.declared.Out.{Out}
 use Rattle.element.specs.Receives.{resultOf, coded}
 use Rattle.element.specs.Groups.{shortWork, floatingWork, compareWork}
@@ -52,8 +53,11 @@ laneStep w scalar x va vb vc i s = laneWorked w (operandAt scalar x va (s .eleme
 abbrev pub shortAt : ℕ → Bool → ℕ → ℕ → ℕ → ℕ → ℕ → Out
 shortAt code exc mask i a b c = resultOf (shortWork code) exc 0 (bit mask i) a b c
 
-abbrev pub floatingAt : ℕ → Bool → ℕ → ℕ → ℕ → ℕ → ℕ → Out
-floatingAt code exc field i a b c = resultOf (floatingWork code) exc field false a b c
+abbrev pub floatingAt : ℕ → Bool → ℕ → ℕ → ℕ → ℕ → Out
+floatingAt code exc i a b c = resultOf (floatingWork code) exc 0 false a b c
+
+abbrev pub convertAt : Bool → ℕ → ℕ → ℕ → ℕ → ℕ → Out
+convertAt exc conversion i a b c = resultOf Convert exc conversion false 0 b c
 
 abbrev pub workAt : ℕ → Bool → ℕ → ℕ → ℕ → ℕ → ℕ → ℕ → Out
 workAt code exc field mask i a b c = resultOf (coded code) exc field (bit mask i) a b c

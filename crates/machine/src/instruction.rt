@@ -14,7 +14,7 @@ ghost use Prim.Native.Nat.{ℕ, _^_, _+_, _<_, _≤_};
 ghost use Rattle.numbers.specs.Bits.{bit, chosen, OnesBelow};
 ghost use Rattle.machine.specs.Run.{run as runOf};
 ghost use Rattle.machine.specs.Kind.{kindOf, isMerge, isCompare, isIota};
-ghost use Rattle.machine.specs.Step.{registerBit};
+ghost use Rattle.machine.specs.Step.{registerBit, notes};
 ghost use Rattle.machine.specs.Instruction.{wholeOf, stepOf};
 ghost use Rattle.machine.specs.Loops.{matched as matchedOf, effected as effectedOf, doneFor};
 
@@ -47,6 +47,18 @@ fn operated(instruction: Instruction, vlr: u64, vmr: u64) -> u64
     )
 }
 
+// What a work that writes elements leaves of the control record.
+fn noted(instruction: Instruction, vmr: u64, vcr: u64, types: u64) -> Effect
+    requires { ⌜ instruction .vc .0 < 16 ⌝ }
+    ensures { λ r. ⌜ r ≡ record { vmr = vmr; vcr = vcr; notes = notes (registerBit false (instruction .vc .0)) types } ⌝ }
+{
+    Effect {
+        vmr,
+        vcr,
+        notes: run::note(register_bit(instruction.vc.0), types),
+    }
+}
+
 // The work of the elements of a set, which lies from `from` on and below `to`; or IOTA's one step. Control numbers go in and out by themselves: the record
 // would go through memory.
 fn effect(
@@ -73,11 +85,49 @@ fn effect(
         return iota::iota(elements, instruction, scalar, mask, vlr, vmr);
     }
     let types = lanes::over(elements, instruction, scalar, mask, which, to);
-    Effect {
-        vmr,
-        vcr,
-        notes: run::note(register_bit(instruction.vc.0), types),
+    noted(instruction, vmr, vcr, types)
+}
+
+// The same of a set of one element, or of none.
+fn part(
+    elements: &mut [u64; 1024],
+    instruction: Instruction,
+    scalar: u64,
+    which: u64,
+    i: usize,
+    vlr: u64,
+    vmr: u64,
+    vcr: u64,
+) -> Effect
+    requires { ⌜ (instruction .va .0 < 16) × (instruction .vb .0 < 16) × (instruction .vc .0 < 16) × (vlr ≤ 64) × (i < 64) ⌝ }
+    requires { ⌜ ((j : ℕ) → bit which j ≡ true → (i ≤ j) × (j < i + 1)) ⌝ }
+    ensures { λ r. ⌜ ((p : Progress) → p .control .vlr ≡ vlr → p .control .vmr ≡ vmr → p .control .vcr ≡ vcr → runOf (now (elements .exit)) (effectedOf r p) ≡ doneFor which instruction scalar (runOf (now (elements .entry)) p)) ⌝ }
+{
+    let work = instruction.work;
+    if crate::is_compare(work) {
+        return mask::over(&*elements, instruction, scalar, which, i, i + 1, vmr, vcr);
     }
+    if crate::is_iota(work) {
+        return effect(
+            elements,
+            instruction,
+            scalar,
+            which,
+            i,
+            i + 1,
+            vlr,
+            vmr,
+            vcr,
+        );
+    }
+    let types = lanes::some(
+        elements,
+        instruction,
+        scalar,
+        matched(vmr, instruction.mtf),
+        which,
+    );
+    noted(instruction, vmr, vcr, types)
 }
 
 // The control record after what was done.
@@ -141,16 +191,6 @@ pub fn step(
     let i = element.0 as usize;
     let all = operated(instruction, vlr, vmr);
     let which = bits::with_bit(0, i, (all >> i) % 2);
-    let done = effect(
-        elements,
-        instruction,
-        scalar,
-        which,
-        i,
-        i + 1,
-        vlr,
-        vmr,
-        vcr,
-    );
+    let done = part(elements, instruction, scalar, which, i, vlr, vmr, vcr);
     effected(progress, done)
 }

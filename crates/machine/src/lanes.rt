@@ -1,6 +1,5 @@
-// Works that write elements, for the elements of a set. The short works have a loop each: the work's number
-// is a constant where a loop is called, and the compiler makes one loop for each. All have one body for every
-// element, and a loop that takes every element below a length besides the walk over a set.
+// Works that write elements, for the elements of a set. The work's number is a constant where the loop of a short
+// work is called: the compiler makes a loop for each. The set of all elements below a length has loops of its own.
 use crate::operand;
 use element;
 use numbers::bits;
@@ -12,7 +11,7 @@ ghost use Rattle.numbers.specs.Rising.{rising, ofOnes};
 ghost use Rattle.opcodes.specs.WorkNumbers.{workNumber};
 ghost use mathlib.Core.Bool.{false};
 ghost use Rattle.machine.specs.Kind.{kindOf, isCompare};
-ghost use Rattle.machine.specs.Loops.{lanes, laneWorked, laneStep, shortAt, floatingAt, workAt};
+ghost use Rattle.machine.specs.Loops.{lanes, laneWorked, laneStep, shortAt, floatingAt, convertAt, workAt};
 
 // A short work of one element.
 fn short(
@@ -89,34 +88,32 @@ fn chosen(
     types
 }
 
-// A floating work of one element.
-fn floating(
+// Floating arithmetic of one element.
+fn arithmetic(
     elements: &mut [u64; 1024],
     types: u64,
     code: u8,
     exc: bool,
-    field: u64,
     a: u64,
     vb: usize,
     vc: usize,
     i: usize,
 ) -> u64
     requires { ⌜ (vb < 16) × (vc < 16) × (i < 64) ⌝ }
-    ensures { λ r. ⌜ lanes (now (elements .exit)) r ≡ laneWorked (floatingAt code exc field) a vb vc i (lanes (now (elements .entry)) types) ⌝ }
+    ensures { λ r. ⌜ lanes (now (elements .exit)) r ≡ laneWorked (floatingAt code exc) a vb vc i (lanes (now (elements .entry)) types) ⌝ }
 {
     let b = elements[vb * 64 + i];
     let to = vc * 64 + i;
-    let o = element::floating_result(code, exc, field, a, b, elements[to]);
+    let o = element::arithmetic(code, exc, a, b, elements[to]);
     elements[to] = o.value;
     types | o.types
 }
 
-// The elements of a set. The work is chosen for each element, which is little beside a floating work.
-fn floatings(
+// The elements of a set. The work is chosen for each element, which is little beside floating arithmetic.
+fn arithmetics(
     elements: &mut [u64; 1024],
     code: u8,
     exc: bool,
-    field: u64,
     scalar: bool,
     x: u64,
     va: usize,
@@ -125,68 +122,99 @@ fn floatings(
     which: u64,
 ) -> u64
     requires { ⌜ (va < 16) × (vb < 16) × (vc < 16) ⌝ }
-    ensures { λ r. ⌜ lanes (now (elements .exit)) r ≡ rising (ofOnes (laneStep (floatingAt code exc field) scalar x va vb vc) which) 64 (lanes (now (elements .entry)) 0) ⌝ }
+    ensures { λ r. ⌜ lanes (now (elements .exit)) r ≡ rising (ofOnes (laneStep (floatingAt code exc) scalar x va vb vc) which) 64 (lanes (now (elements .entry)) 0) ⌝ }
 {
     let mut types: u64 = 0;
     let mut left = which;
     while left != 0 {
         let i = bits::lowest(left);
         let a = operand::first(&*elements, scalar, x, va, i);
-        types = floating(&mut *elements, types, code, exc, field, a, vb, vc, i);
+        types = arithmetic(&mut *elements, types, code, exc, a, vb, vc, i);
         left = bits::without_lowest(left);
     }
     types
 }
 
-// Every element below n, by the work's number: a constant for each short work.
-fn plain(
+// The conversion of one element.
+fn convert(
     elements: &mut [u64; 1024],
-    code: u8,
+    types: u64,
     exc: bool,
-    field: u64,
-    mask: u64,
-    scalar: bool,
-    x: u64,
-    va: usize,
+    conversion: u64,
     vb: usize,
     vc: usize,
-    n: usize,
+    i: usize,
+) -> u64
+    requires { ⌜ (vb < 16) × (vc < 16) × (i < 64) ⌝ }
+    ensures { λ r. ⌜ lanes (now (elements .exit)) r ≡ laneWorked (convertAt exc conversion) 0 vb vc i (lanes (now (elements .entry)) types) ⌝ }
+{
+    let b = elements[vb * 64 + i];
+    let to = vc * 64 + i;
+    let o = element::converted(exc, conversion, b, elements[to]);
+    elements[to] = o.value;
+    types | o.types
+}
+
+// The elements of a set.
+fn converts(
+    elements: &mut [u64; 1024],
+    exc: bool,
+    conversion: u64,
+    vb: usize,
+    vc: usize,
     which: u64,
 ) -> u64
-    requires { ⌜ (va < 16) × (vb < 16) × (vc < 16) × (code ≡ 4 → ⊥) × (code ≡ 13 → ⊥) × (n ≤ 64) × (which ≡ lowBits (2 ^ 64 - 1) n) ⌝ }
-    ensures { λ r. ⌜ lanes (now (elements .exit)) r ≡ rising (ofOnes (laneStep (workAt code exc field mask) scalar x va vb vc) which) 64 (lanes (now (elements .entry)) 0) ⌝ }
+    requires { ⌜ (vb < 16) × (vc < 16) ⌝ }
+    ensures { λ r. ⌜ lanes (now (elements .exit)) r ≡ rising (ofOnes (laneWorked (convertAt exc conversion) 0 vb vc) which) 64 (lanes (now (elements .entry)) 0) ⌝ }
 {
-    match code {
-        1 => every(elements, 1, exc, mask, scalar, x, va, vb, vc, n),
-        2 => every(elements, 2, exc, mask, scalar, x, va, vb, vc, n),
-        3 => every(elements, 3, exc, mask, scalar, x, va, vb, vc, n),
-        5 => every(elements, 5, exc, mask, scalar, x, va, vb, vc, n),
-        6 => every(elements, 6, exc, mask, scalar, x, va, vb, vc, n),
-        7 => every(elements, 7, exc, mask, scalar, x, va, vb, vc, n),
-        8 => every(elements, 8, exc, mask, scalar, x, va, vb, vc, n),
-        9 => every(elements, 9, exc, mask, scalar, x, va, vb, vc, n),
-        16 => every(elements, 16, exc, mask, scalar, x, va, vb, vc, n),
-        _ => floatings(elements, code, exc, field, scalar, x, va, vb, vc, which),
+    let mut types: u64 = 0;
+    let mut left = which;
+    while left != 0 {
+        let i = bits::lowest(left);
+        types = convert(&mut *elements, types, exc, conversion, vb, vc, i);
+        left = bits::without_lowest(left);
+    }
+    types
+}
+
+// Conversions, with a constant for each.
+fn conversions(
+    elements: &mut [u64; 1024],
+    exc: bool,
+    conversion: u64,
+    vb: usize,
+    vc: usize,
+    which: u64,
+) -> u64
+    requires { ⌜ (vb < 16) × (vc < 16) ⌝ }
+    ensures { λ r. ⌜ lanes (now (elements .exit)) r ≡ rising (ofOnes (laneWorked (convertAt exc conversion) 0 vb vc) which) 64 (lanes (now (elements .entry)) 0) ⌝ }
+{
+    match conversion {
+        5 => converts(elements, exc, 5, vb, vc, which),
+        4 => converts(elements, exc, 4, vb, vc, which),
+        1 => converts(elements, exc, 1, vb, vc, which),
+        _ => converts(elements, exc, conversion, vb, vc, which),
     }
 }
 
-// The elements of a set, likewise.
-fn masked(
+// The work of the elements of a set.
+pub fn some(
     elements: &mut [u64; 1024],
-    code: u8,
-    exc: bool,
-    field: u64,
-    mask: u64,
-    scalar: bool,
+    instruction: Instruction,
     x: u64,
-    va: usize,
-    vb: usize,
-    vc: usize,
+    mask: u64,
     which: u64,
 ) -> u64
-    requires { ⌜ (va < 16) × (vb < 16) × (vc < 16) × (code ≡ 4 → ⊥) × (code ≡ 13 → ⊥) ⌝ }
-    ensures { λ r. ⌜ lanes (now (elements .exit)) r ≡ rising (ofOnes (laneStep (workAt code exc field mask) scalar x va vb vc) which) 64 (lanes (now (elements .entry)) 0) ⌝ }
+    requires { ⌜ (instruction .va .0 < 16) × (instruction .vb .0 < 16) × (instruction .vc .0 < 16) × (isCompare (kindOf (instruction .work)) ≡ false) ⌝ }
+    ensures { λ r. ⌜ lanes (now (elements .exit)) r ≡ rising (ofOnes (laneStep (workAt (workNumber (instruction .work)) (instruction .exc) (instruction .va .0) mask) (instruction .scalar) x (instruction .va .0) (instruction .vb .0) (instruction .vc .0)) which) 64 (lanes (now (elements .entry)) 0) ⌝ }
 {
+    let work = instruction.work;
+    let code = element::code(work);
+    let exc = instruction.exc;
+    let scalar = instruction.scalar;
+    let va = instruction.va.0 as usize;
+    let vb = instruction.vb.0 as usize;
+    let vc = instruction.vc.0 as usize;
     match code {
         1 => chosen(elements, 1, exc, mask, scalar, x, va, vb, vc, which),
         2 => chosen(elements, 2, exc, mask, scalar, x, va, vb, vc, which),
@@ -197,12 +225,16 @@ fn masked(
         8 => chosen(elements, 8, exc, mask, scalar, x, va, vb, vc, which),
         9 => chosen(elements, 9, exc, mask, scalar, x, va, vb, vc, which),
         16 => chosen(elements, 16, exc, mask, scalar, x, va, vb, vc, which),
-        _ => floatings(elements, code, exc, field, scalar, x, va, vb, vc, which),
+        14 => {
+            let conversion = instruction.va.0 as u64;
+            conversions(elements, exc, conversion, vb, vc, which)
+        }
+        _ => arithmetics(elements, code, exc, scalar, x, va, vb, vc, which),
     }
 }
 
-// The work of the elements of a set. The set of all elements below n, the common one, has loops of its own.
-pub fn over(
+// The work of every element below n, which are the set.
+fn all(
     elements: &mut [u64; 1024],
     instruction: Instruction,
     x: u64,
@@ -210,7 +242,7 @@ pub fn over(
     which: u64,
     n: usize,
 ) -> u64
-    requires { ⌜ (instruction .va .0 < 16) × (instruction .vb .0 < 16) × (instruction .vc .0 < 16) × (n ≤ 64) × (isCompare (kindOf (instruction .work)) ≡ false) ⌝ }
+    requires { ⌜ (instruction .va .0 < 16) × (instruction .vb .0 < 16) × (instruction .vc .0 < 16) × (isCompare (kindOf (instruction .work)) ≡ false) × (n ≤ 64) × (which ≡ lowBits (2 ^ 64 - 1) n) ⌝ }
     ensures { λ r. ⌜ lanes (now (elements .exit)) r ≡ rising (ofOnes (laneStep (workAt (workNumber (instruction .work)) (instruction .exc) (instruction .va .0) mask) (instruction .scalar) x (instruction .va .0) (instruction .vb .0) (instruction .vc .0)) which) 64 (lanes (now (elements .entry)) 0) ⌝ }
 {
     let work = instruction.work;
@@ -220,34 +252,34 @@ pub fn over(
     let va = instruction.va.0 as usize;
     let vb = instruction.vb.0 as usize;
     let vc = instruction.vc.0 as usize;
-    let field = instruction.va.0 as u64;
-    if which == bits::low_bits(18446744073709551615, n as u64) {
-        return plain(
-            elements,
-            code,
-            exc,
-            field,
-            mask,
-            scalar,
-            x,
-            va,
-            vb,
-            vc,
-            n,
-            which,
-        );
+    match code {
+        1 => every(elements, 1, exc, mask, scalar, x, va, vb, vc, n),
+        2 => every(elements, 2, exc, mask, scalar, x, va, vb, vc, n),
+        3 => every(elements, 3, exc, mask, scalar, x, va, vb, vc, n),
+        5 => every(elements, 5, exc, mask, scalar, x, va, vb, vc, n),
+        6 => every(elements, 6, exc, mask, scalar, x, va, vb, vc, n),
+        7 => every(elements, 7, exc, mask, scalar, x, va, vb, vc, n),
+        8 => every(elements, 8, exc, mask, scalar, x, va, vb, vc, n),
+        9 => every(elements, 9, exc, mask, scalar, x, va, vb, vc, n),
+        16 => every(elements, 16, exc, mask, scalar, x, va, vb, vc, n),
+        _ => some(elements, instruction, x, mask, which),
     }
-    masked(
-        elements,
-        code,
-        exc,
-        field,
-        mask,
-        scalar,
-        x,
-        va,
-        vb,
-        vc,
-        which,
-    )
+}
+
+// The work of the elements of a set, which may be all below n.
+pub fn over(
+    elements: &mut [u64; 1024],
+    instruction: Instruction,
+    x: u64,
+    mask: u64,
+    which: u64,
+    n: usize,
+) -> u64
+    requires { ⌜ (instruction .va .0 < 16) × (instruction .vb .0 < 16) × (instruction .vc .0 < 16) × (isCompare (kindOf (instruction .work)) ≡ false) × (n ≤ 64) ⌝ }
+    ensures { λ r. ⌜ lanes (now (elements .exit)) r ≡ rising (ofOnes (laneStep (workAt (workNumber (instruction .work)) (instruction .exc) (instruction .va .0) mask) (instruction .scalar) x (instruction .va .0) (instruction .vb .0) (instruction .vc .0)) which) 64 (lanes (now (elements .entry)) 0) ⌝ }
+{
+    if which == bits::low_bits(18446744073709551615, n as u64) {
+        return all(elements, instruction, x, mask, which, n);
+    }
+    some(elements, instruction, x, mask, which)
 }

@@ -1,4 +1,5 @@
-use mathlib.Core.Path.{sym, _∙_}
+use mathlib.Core.Path.{sym, ap, _∙_}
+use Rattle.machine.specs.declared.Effect.{Effect}
 use Rattle.machine.specs.Kind.{kindOf}
 use Rattle.machine.proofs.Values.{valued}
 use borrow.Author.Needs.{needs}
@@ -32,19 +33,16 @@ over-requires-2 : tie.Need-over-requires-2
 unfolding kindOf
 over-requires-2 c κs = (search needs, search needs, search needs, search needs, search needs)
 
-register-bit-requires : tie.Need-register-bit-requires
-register-bit-requires c κs = search needs
-
-note-requires : tie.Need-note-requires
-note-requires c κs = search needs
+noted-requires : tie.Need-noted-requires
+noted-requires c κs = search needs
 
 returns-3 : tie.Need-returns-3
 returns-3 c = λ p e f g.
-    valued (c .before .before .before .before .before .before .before .before .before .args .instruction) (c .before .before .before .before .before .before .before .before .before .args .scalar) (c .before .before .before .before .before .before .before .before .before .args .which) _ p (rw f (search needs)) (sym (c .before .before .before .before .before .before .before .before .is-compare .ensures) ∙ c .before .before .before .before .before .before .before .if1 .left) (sym (c .before .before .before .before .before .is-iota .ensures) ∙ c .before .before .before .before .if2 .left) _ (c .before .before .over2 .result) _
-    (rw (f, ← (c .before .before .before .before .before .before .matched .ensures)) (c .before .before .over2 .ensures))
-    (sym f)
-    (sym g)
-    (rw (← (c .before .register-bit .ensures)) (c .note .ensures))
+    valued (c .before .before .before .before .before .before .before .before .args .instruction) (c .before .before .before .before .before .before .before .before .args .scalar) (c .before .before .before .before .before .before .before .before .args .which) _ p (rw f (search needs)) (sym (c .before .before .before .before .before .before .before .is-compare .ensures) ∙ c .before .before .before .before .before .before .if1 .left) (sym (c .before .before .before .before .is-iota .ensures) ∙ c .before .before .before .if2 .left) _ (c .before .over2 .result) (c .noted .result)
+    (rw (f, ← (c .before .before .before .before .before .matched .ensures)) (c .before .over2 .ensures))
+    (ap (λ (d : Effect). d .vmr) (c .noted .ensures) ∙ sym f)
+    (ap (λ (d : Effect). d .vcr) (c .noted .ensures) ∙ sym g)
+    (ap (λ (d : Effect). d .notes) (c .noted .ensures))
 
 pub effect-spec : {M : Type 1} → statement M
 effect-spec =
@@ -58,6 +56,5 @@ effect-spec =
     iota-requires
     returns-2
     over-requires-2
-    register-bit-requires
-    note-requires
+    noted-requires
     returns-3)

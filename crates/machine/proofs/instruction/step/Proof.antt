@@ -19,18 +19,15 @@ shr-with-bit c = search needs
 with-bit-requires : tie.Need-with-bit-requires
 with-bit-requires c κs = search needs
 
-add-effect : tie.Need-add-effect
-add-effect c = search needs
-
-effect-requires : tie.Need-effect-requires
-effect-requires c κs = ((search needs, search needs, search needs, search needs, search needs, search needs, search needs), at-one _ _ _ (mod-lt _ (omega arith)) (c .before .with-bit .ensures))
+part-requires : tie.Need-part-requires
+part-requires c κs = ((search needs, search needs, search needs, search needs, search needs), at-one _ _ _ (mod-lt _ (omega arith)) (c .before .with-bit .ensures))
 
 effected-requires : tie.Need-effected-requires
 effected-requires c κs = search needs
 
 returns : tie.Need-returns
 returns c = ap (run _) (c .effected .ensures)
-    ∙ c .before .effect .ensures _ refl refl refl
+    ∙ c .before .part .ensures _ refl refl refl
     ∙ step _ _ _ _ (c .before .before .before .before .before .before .pre .3) (c .before .before .before .before .operated .ensures) _ _ (search needs) (c .before .before .before .with-bit .ensures)
 
 pub step-spec : {M : Type 1} → statement M
@@ -41,7 +38,6 @@ step-spec =
     operated-requires
     shr-with-bit
     with-bit-requires
-    add-effect
-    effect-requires
+    part-requires
     effected-requires
     returns)

@@ -1,7 +1,7 @@
 use Rattle.machine.specs.Loops.{laneWorked}
 use borrow.Author.Needs.{needs}
-use Rattle.machine.proofs.lanes.floating.Statement.{statement}
-use Rattle.machine.proofs.lanes.floating.Tie as tie
+use Rattle.machine.proofs.lanes.convert.Statement.{statement}
+use Rattle.machine.proofs.lanes.convert.Tie as tie
 
 mul-b : tie.Need-mul-b
 mul-b c = search needs
@@ -21,14 +21,14 @@ mul-to c = search needs
 add-to : tie.Need-add-to
 add-to c = search needs
 
-mul-floating-result : tie.Need-mul-floating-result
-mul-floating-result c = search needs
+mul-converted : tie.Need-mul-converted
+mul-converted c = search needs
 
-element-copy-out-floating-result : tie.Need-element-copy-out-floating-result
-element-copy-out-floating-result c = search needs
+element-copy-out-converted : tie.Need-element-copy-out-converted
+element-copy-out-converted c = search needs
 
-floating-result-requires : tie.Need-floating-result-requires
-floating-result-requires c κs = search needs
+converted-requires : tie.Need-converted-requires
+converted-requires c κs = search needs
 
 mul-elements : tie.Need-mul-elements
 mul-elements c = search needs
@@ -38,10 +38,10 @@ element-write-elements c = search needs
 
 returns : tie.Need-returns
 unfolding laneWorked
-returns c = rw (c .before .floating-result .ensures)
+returns c = rw (c .before .converted .ensures)
 
-pub floating-spec : {M : Type 1} → statement M
-floating-spec =
+pub convert-spec : {M : Type 1} → statement M
+convert-spec =
     tie.close
     (tie.spec
     mul-b
@@ -50,9 +50,9 @@ floating-spec =
     element-copy-out-b
     mul-to
     add-to
-    mul-floating-result
-    element-copy-out-floating-result
-    floating-result-requires
+    mul-converted
+    element-copy-out-converted
+    converted-requires
     mul-elements
     element-write-elements
     returns)

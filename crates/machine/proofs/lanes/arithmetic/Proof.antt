@@ -1,0 +1,58 @@
+use Rattle.machine.specs.Loops.{laneWorked}
+use borrow.Author.Needs.{needs}
+use Rattle.machine.proofs.lanes.arithmetic.Statement.{statement}
+use Rattle.machine.proofs.lanes.arithmetic.Tie as tie
+
+mul-b : tie.Need-mul-b
+mul-b c = search needs
+
+add-b : tie.Need-add-b
+add-b c = search needs
+
+mul-b-2 : tie.Need-mul-b-2
+mul-b-2 c = search needs
+
+element-copy-out-b : tie.Need-element-copy-out-b
+element-copy-out-b c = search needs
+
+mul-to : tie.Need-mul-to
+mul-to c = search needs
+
+add-to : tie.Need-add-to
+add-to c = search needs
+
+mul-arithmetic : tie.Need-mul-arithmetic
+mul-arithmetic c = search needs
+
+element-copy-out-arithmetic : tie.Need-element-copy-out-arithmetic
+element-copy-out-arithmetic c = search needs
+
+arithmetic-requires : tie.Need-arithmetic-requires
+arithmetic-requires c κs = search needs
+
+mul-elements : tie.Need-mul-elements
+mul-elements c = search needs
+
+element-write-elements : tie.Need-element-write-elements
+element-write-elements c = search needs
+
+returns : tie.Need-returns
+unfolding laneWorked
+returns c = rw (c .before .arithmetic .ensures)
+
+pub arithmetic-spec : {M : Type 1} → statement M
+arithmetic-spec =
+    tie.close
+    (tie.spec
+    mul-b
+    add-b
+    mul-b-2
+    element-copy-out-b
+    mul-to
+    add-to
+    mul-arithmetic
+    element-copy-out-arithmetic
+    arithmetic-requires
+    mul-elements
+    element-write-elements
+    returns)

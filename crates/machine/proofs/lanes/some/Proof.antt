@@ -1,0 +1,131 @@
+use mathlib.Core.Path.{refl}
+use Rattle.element.specs.Receives.{resultOf, coded}
+use Rattle.element.specs.Groups.{shortWork}
+use Rattle.machine.proofs.LaneLoops.{short-chosen, floating-chosen, convert-chosen}
+use Rattle.machine.proofs.WorkKinds.{not-compare}
+use borrow.Author.Needs.{needs}
+use Rattle.machine.proofs.lanes.some.Statement.{statement}
+use Rattle.machine.proofs.lanes.some.Tie as tie
+
+code-requires : tie.Need-code-requires
+code-requires c κs = search needs
+
+cast-va : tie.Need-cast-va
+cast-va c = search needs
+
+cast-vb : tie.Need-cast-vb
+cast-vb c = search needs
+
+cast-vc : tie.Need-cast-vc
+cast-vc c = search needs
+
+chosen-requires : tie.Need-chosen-requires
+chosen-requires c κs = search needs
+
+chosen-requires-2 : tie.Need-chosen-requires-2
+chosen-requires-2 c κs = search needs
+
+chosen-requires-3 : tie.Need-chosen-requires-3
+chosen-requires-3 c κs = search needs
+
+chosen-requires-4 : tie.Need-chosen-requires-4
+chosen-requires-4 c κs = search needs
+
+chosen-requires-5 : tie.Need-chosen-requires-5
+chosen-requires-5 c κs = search needs
+
+chosen-requires-6 : tie.Need-chosen-requires-6
+chosen-requires-6 c κs = search needs
+
+chosen-requires-7 : tie.Need-chosen-requires-7
+chosen-requires-7 c κs = search needs
+
+chosen-requires-8 : tie.Need-chosen-requires-8
+chosen-requires-8 c κs = search needs
+
+chosen-requires-9 : tie.Need-chosen-requires-9
+chosen-requires-9 c κs = search needs
+
+cast-conversion : tie.Need-cast-conversion
+cast-conversion c = search needs
+
+conversions-requires : tie.Need-conversions-requires
+conversions-requires c κs = search needs
+
+arithmetics-requires : tie.Need-arithmetics-requires
+arithmetics-requires c κs = search needs
+
+returns : tie.Need-returns
+unfolding resultOf coded shortWork
+returns c = rw (← (c .before .before .before .before .before .before .code .ensures), c .before .before .match .keys1) (short-chosen 1 (c .before .before .before .before .before .before .before .args .instruction .exc) (c .before .before .before .before .before .before .before .args .instruction .va .0) (c .before .before .before .before .before .before .before .args .mask) _ _ _ _ _ _ _ _ (c .chosen .ensures) (λ m a b d. refl))
+
+returns-2 : tie.Need-returns-2
+unfolding resultOf coded shortWork
+returns-2 c = rw (← (c .before .before .before .before .before .before .code .ensures), c .before .before .match .keys2) (short-chosen 2 (c .before .before .before .before .before .before .before .args .instruction .exc) (c .before .before .before .before .before .before .before .args .instruction .va .0) (c .before .before .before .before .before .before .before .args .mask) _ _ _ _ _ _ _ _ (c .chosen2 .ensures) (λ m a b d. refl))
+
+returns-3 : tie.Need-returns-3
+unfolding resultOf coded shortWork
+returns-3 c = rw (← (c .before .before .before .before .before .before .code .ensures), c .before .before .match .keys3) (short-chosen 3 (c .before .before .before .before .before .before .before .args .instruction .exc) (c .before .before .before .before .before .before .before .args .instruction .va .0) (c .before .before .before .before .before .before .before .args .mask) _ _ _ _ _ _ _ _ (c .chosen3 .ensures) (λ m a b d. refl))
+
+returns-4 : tie.Need-returns-4
+unfolding resultOf coded shortWork
+returns-4 c = rw (← (c .before .before .before .before .before .before .code .ensures), c .before .before .match .keys4) (short-chosen 5 (c .before .before .before .before .before .before .before .args .instruction .exc) (c .before .before .before .before .before .before .before .args .instruction .va .0) (c .before .before .before .before .before .before .before .args .mask) _ _ _ _ _ _ _ _ (c .chosen4 .ensures) (λ m a b d. refl))
+
+returns-5 : tie.Need-returns-5
+unfolding resultOf coded shortWork
+returns-5 c = rw (← (c .before .before .before .before .before .before .code .ensures), c .before .before .match .keys5) (short-chosen 6 (c .before .before .before .before .before .before .before .args .instruction .exc) (c .before .before .before .before .before .before .before .args .instruction .va .0) (c .before .before .before .before .before .before .before .args .mask) _ _ _ _ _ _ _ _ (c .chosen5 .ensures) (λ m a b d. refl))
+
+returns-6 : tie.Need-returns-6
+unfolding resultOf coded shortWork
+returns-6 c = rw (← (c .before .before .before .before .before .before .code .ensures), c .before .before .match .keys6) (short-chosen 7 (c .before .before .before .before .before .before .before .args .instruction .exc) (c .before .before .before .before .before .before .before .args .instruction .va .0) (c .before .before .before .before .before .before .before .args .mask) _ _ _ _ _ _ _ _ (c .chosen6 .ensures) (λ m a b d. refl))
+
+returns-7 : tie.Need-returns-7
+unfolding resultOf coded shortWork
+returns-7 c = rw (← (c .before .before .before .before .before .before .code .ensures), c .before .before .match .keys7) (short-chosen 8 (c .before .before .before .before .before .before .before .args .instruction .exc) (c .before .before .before .before .before .before .before .args .instruction .va .0) (c .before .before .before .before .before .before .before .args .mask) _ _ _ _ _ _ _ _ (c .chosen7 .ensures) (λ m a b d. refl))
+
+returns-8 : tie.Need-returns-8
+unfolding resultOf coded shortWork
+returns-8 c = rw (← (c .before .before .before .before .before .before .code .ensures), c .before .before .match .keys8) (short-chosen 9 (c .before .before .before .before .before .before .before .args .instruction .exc) (c .before .before .before .before .before .before .before .args .instruction .va .0) (c .before .before .before .before .before .before .before .args .mask) _ _ _ _ _ _ _ _ (c .chosen8 .ensures) (λ m a b d. refl))
+
+returns-9 : tie.Need-returns-9
+unfolding resultOf coded shortWork
+returns-9 c = rw (← (c .before .before .before .before .before .before .code .ensures), c .before .before .match .keys9) (short-chosen 16 (c .before .before .before .before .before .before .before .args .instruction .exc) (c .before .before .before .before .before .before .before .args .instruction .va .0) (c .before .before .before .before .before .before .before .args .mask) _ _ _ _ _ _ _ _ (c .chosen9 .ensures) (λ m a b d. refl))
+
+returns-10 : tie.Need-returns-10
+returns-10 c = rw (← (c .before .before .before .before .before .before .before .code .ensures), c .before .before .before .match .keys10) (convert-chosen _ _ _ _ _ _ _ _ _ _ _ (c .conversions .ensures))
+
+returns-11 : tie.Need-returns-11
+returns-11 c = let n = not-compare _ (c .before .before .before .before .before .before .before .pre .3) in
+    rw (← (c .before .before .before .before .before .before .code .ensures)) (floating-chosen _ (c .before .before .before .before .before .before .before .args .instruction .exc) (c .before .before .before .before .before .before .before .args .instruction .va .0) (c .before .before .before .before .before .before .before .args .mask) _ _ _ _ _ _ _ _ (c .arithmetics .ensures) (c .before .before .match .rest .0) (rw (c .before .before .before .before .before .before .code .ensures) (n .0)) (rw (c .before .before .before .before .before .before .code .ensures) (n .1)) (c .before .before .match .rest .1))
+
+pub some-spec : {M : Type 1} → statement M
+some-spec =
+    tie.close
+    (tie.spec
+    code-requires
+    cast-va
+    cast-vb
+    cast-vc
+    chosen-requires
+    chosen-requires-2
+    chosen-requires-3
+    chosen-requires-4
+    chosen-requires-5
+    chosen-requires-6
+    chosen-requires-7
+    chosen-requires-8
+    chosen-requires-9
+    cast-conversion
+    conversions-requires
+    arithmetics-requires
+    returns
+    returns-2
+    returns-3
+    returns-4
+    returns-5
+    returns-6
+    returns-7
+    returns-8
+    returns-9
+    returns-10
+    returns-11)
