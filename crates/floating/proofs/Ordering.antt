@@ -8,12 +8,12 @@ use native.Mathlib.Omega.{arith}
 use lib.Dec.{T, eqb, ltb, ltb→lt, nltb→le, lit<}
 use lib.Pow.{pow-pos}
 use borrow.Author.Tests.{eq-eqb, ne-eqb, eqb-false, lt-ltb, le-ltb}
-use Rattle.floating.specs.Format.{Format, F, signOf, exponentOf, isReserved}
+use Rattle.floating.specs.Format.{Format, F, signOf, exponentOf, fractionOf, isReserved}
 use Rattle.floating.specs.Exact.{Exact, sizeOf, valueOf, minus}
 use Rattle.floating.specs.Operations.{side, holds, compared}
 use Rattle.floating.specs.Steps.{turned, magnitude, rank, level}
 use Rattle.floating.proofs.Packing.{Sound, F-sound, exponent-lt, fraction-lt, turned-split}
-use Rattle.floating.proofs.Magnitude.{size-pos, rank-less, rank-same}
+use Rattle.floating.proofs.Magnitude.{size-pos, zero-rank, full-rank, rank-less, rank-same}
 use Rattle.floating.proofs.Sums.{Test, same, less, more, order, signs, together-same, together-more, together-less}
 
 -- ---- the side of an exact number
@@ -105,21 +105,39 @@ module _ (f : Format) (S : Sound f) where
 
 -- ---- by the levels
 -- the level of a number that is not reserved
-level-is : (w : ℕ) → w < 4294967296 → isReserved F w ≡ false → level F w ≡ signOf F w * 2147483648 + rank F w
-level-is w l n = go (eqb (exponentOf F w) 0) refl
+level-is : (w : ℕ) → w < 4294967296 → isReserved F w ≡ false → level w ≡ signOf F w * 2147483648 + rank F w
+level-is w l n = go (eq-zero-or-pos (exponentOf F w))
   where
-    sign-none : eqb (exponentOf F w) 0 ≡ true → signOf F w ≡ 0
-    sign-none e =
-        let s : eqb (signOf F w) 1 ≡ false = ap (λ (z : Bool). cond z (eqb (signOf F w) 1) false) (sym e) ∙ n in
+    sign-none : exponentOf F w ≡ 0 → signOf F w ≡ 0
+    sign-none z =
+        let s : eqb (signOf F w) 1 ≡ false = ap (λ (t : Bool). cond t (eqb (signOf F w) 1) false) (sym (eq-eqb (exponentOf F w) 0 z)) ∙ n in
         let d : (signOf F w ≡ 1 → ⊥) = eqb-false (signOf F w) 1 s in
         omega (arith, d)
 
-    go : (t : Bool) → eqb (exponentOf F w) 0 ≡ t → cond t 0 (turned w) ≡ signOf F w * 2147483648 + cond t 0 (magnitude F w)
-    go true e = let z = sign-none e in omega arith
-    go false e = turned-split w l
+    go : (exponentOf F w ≡ 0) ⊎ (0 < exponentOf F w) → level w ≡ signOf F w * 2147483648 + rank F w
+    go (inl z) =
+        let s = sign-none z in
+        let r = zero-rank F F-sound w z in
+        let x = fraction-lt F F-sound w in
+        let t = turned-split w l in
+        let small : turned w < 8388608 = below (turned w) (signOf F w) (exponentOf F w) (fractionOf F w) t s z x in
+        ap (λ (b : Bool). cond b 0 (turned w)) (lt-ltb (turned w) 8388608 small) ∙ nothing (signOf F w) (rank F w) s r
+      where
+        below : (t s e x : ℕ) → t ≡ s * 2147483648 + (e * 8388608 + x) → s ≡ 0 → e ≡ 0 → x < 8388608 → t < 8388608
+        below t s e x h g k l = omega arith
 
-pub level-made : (w e t r : ℕ) → e ≡ exponentOf F w → t ≡ turned w → r ≡ cond (eqb e 0) 0 t → r ≡ level F w
-level-made w e t r he ht hr = hr ∙ ap (λ (z : ℕ). cond (eqb z 0) 0 t) he ∙ ap (λ (z : ℕ). cond (eqb (exponentOf F w) 0) 0 z) ht
+        nothing : (s r : ℕ) → s ≡ 0 → r ≡ 0 → 0 ≡ s * 2147483648 + r
+        nothing s r e d = omega arith
+    go (inr p) =
+        let t = turned-split w l in
+        let large : 8388608 ≤ turned w = above (turned w) (signOf F w) (exponentOf F w) (fractionOf F w) t p in
+        ap (λ (b : Bool). cond b 0 (turned w)) (le-ltb (turned w) 8388608 large) ∙ t ∙ ap (λ (z : ℕ). signOf F w * 2147483648 + z) (sym (full-rank F F-sound w p))
+      where
+        above : (t s e x : ℕ) → t ≡ s * 2147483648 + (e * 8388608 + x) → 0 < e → 8388608 ≤ t
+        above t s e x h k = omega arith
+
+pub level-made : (w t r : ℕ) → t ≡ turned w → r ≡ cond (ltb t 8388608) 0 t → r ≡ level w
+level-made w t r ht hr = hr ∙ ap (λ (z : ℕ). cond (ltb z 8388608) 0 z) ht
 
 rank-lt : (w : ℕ) → rank F w < 2147483648
 rank-lt w = go (eqb (exponentOf F w) 0)
@@ -198,7 +216,7 @@ module _ (x y p q : ℕ) (hp : p ≡ cond (ltb x y) 2 0) (hq : q ≡ cond (eqb x
               let i : s ≡ 1 = omega arith in
               one-down k (left-down (omega arith)) w ∙ ap (λ (j : ℕ). cond (eqb j 1) (2 - k) k) (sym i)
 
-pub side-found : (a b x y p q r : ℕ) → a < 4294967296 → b < 4294967296 → isReserved F a ≡ false → isReserved F b ≡ false → x ≡ level F a → y ≡ level F b → p ≡ cond (ltb x y) 2 0 → q ≡ cond (eqb x y) 1 0 → r ≡ cond (ltb 2147483647 x || ltb 2147483647 y) (2 - (p + q)) (p + q) → r ≡ side (minus (valueOf F a) (valueOf F b))
+pub side-found : (a b x y p q r : ℕ) → a < 4294967296 → b < 4294967296 → isReserved F a ≡ false → isReserved F b ≡ false → x ≡ level a → y ≡ level b → p ≡ cond (ltb x y) 2 0 → q ≡ cond (eqb x y) 1 0 → r ≡ cond (ltb 2147483647 x || ltb 2147483647 y) (2 - (p + q)) (p + q) → r ≡ side (minus (valueOf F a) (valueOf F b))
 side-found a b x y p q r la lb na nb hx hy hp hq hr = go (signs (signOf F a) (signOf F b)) (order (rank F a) (rank F b))
   where
     ex : x ≡ signOf F a * 2147483648 + rank F a

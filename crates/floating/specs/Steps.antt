@@ -67,9 +67,9 @@ pub record StandsFor (x n : ℕ) : Type 0 where
 abbrev pub rank : Format → ℕ → ℕ
 rank f w = cond (eqb (exponentOf f w) 0) 0 (magnitude f w)
 
--- the word turned, and 0 for zero: the sign, and the rank below it
-abbrev pub level : Format → ℕ → ℕ
-level f w = cond (eqb (exponentOf f w) 0) 0 (turned w)
+-- a word of F turned, and 0 for zero, which has no exponent: the sign, and the rank below it
+abbrev pub level : ℕ → ℕ
+level w = cond (ltb (turned w) 0x80_0000) 0 (turned w)
 
 -- the binary64 number r is the number of the word w, not zero
 pub record Reads (f : Format) (w : ℕ) (r : Float) : Type 0 where

@@ -9,11 +9,12 @@ ghost use Rattle.floating.specs.Exact.{valueOf, minus};
 ghost use Rattle.floating.specs.Operations.{side, holds, compared};
 ghost use Rattle.floating.specs.Steps.{level};
 
-// The word turned, and 0 for zero.
+// The word turned, and 0 for zero, which has no exponent.
 fn level_of(word: u32) -> u32
-    ensures { λ r. ⌜ r ≡ level F word ⌝ }
+    ensures { λ r. ⌜ r ≡ level word ⌝ }
 {
-    word::chosen(word::exponent_of(word) == 0, 0, word::turned(word))
+    let t = word::turned(word);
+    word::chosen(t < 8388608, 0, t)
 }
 
 // 0 where a is greater, 1 where they are equal, 2 where a is less. Levels rise with the numbers, but fall where one is negative.

@@ -4,9 +4,6 @@ use borrow.Author.Needs.{needs}
 use Rattle.floating.proofs.order.level_of.Statement.{statement}
 use Rattle.floating.proofs.order.level_of.Tie as tie
 
-exponent-of-requires : tie.Need-exponent-of-requires
-exponent-of-requires c κs = search needs
-
 turned-requires : tie.Need-turned-requires
 turned-requires c κs = search needs
 
@@ -17,4 +14,4 @@ returns : tie.Need-returns
 returns c = search (level-made, needs)
 
 pub level-of-spec : {M : Type 1} → statement M
-level-of-spec = tie.close (tie.spec exponent-of-requires turned-requires chosen-requires returns)
+level-of-spec = tie.close (tie.spec turned-requires chosen-requires returns)
