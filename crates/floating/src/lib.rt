@@ -14,7 +14,7 @@ ghost use Rattle.floating.specs.Format.{F};
 ghost use Rattle.floating.specs.Reading.{Shows, longwordReading, kindOf, bitsOf};
 ghost use Rattle.floating.specs.Operations.{answered, sum, difference, product, compared, roundedLongword, truncatedLongword, fromLongword};
 
-// What an operation gives, before EXC is looked at.
+// What an operation gives, before EXC is looked at: the promises speak of it, and the calls hand out the answer to it.
 pub enum Outcome {
     Word(u32),
     Overflow,
