@@ -3,7 +3,7 @@ use crate::Access;
 use crate::Test;
 ghost use mathlib.Core.Path.{_≡_};
 ghost use mathlib.Core.Bool.{true};
-ghost use Prim.Native.Nat.{ℕ, _+_, _-_, _^_, _≤_, _<_, _%_};
+ghost use Prim.Native.Nat.{ℕ, _+_, _-_, _^_, _≤_, _<_, _%_, max};
 ghost use lib.ListN.{getD};
 ghost use lib.Dec.{eqb};
 ghost use Rattle.numbers.specs.Bits.{bit};
@@ -65,16 +65,20 @@ fn search(addresses: &[u32; 64], which: u64, quadword: bool, origin: u64, end: u
     Access::Done
 }
 
-// How many places of a window an element may begin at.
+// The larger of two numbers.
+fn larger(a: u64, b: u64) -> u64
+    ensures { λ r. ⌜ r ≡ max a b ⌝ }
+{
+    if a < b { b } else { a }
+}
+
+// How many places of a window an element may begin at. A window may be too short for one.
 fn room(bytes: u64, quadword: bool) -> u32
     requires { ⌜ bytes ≤ 2 ^ 32 ⌝ }
     ensures { λ r. ⌜ r ≡ bytes + 1 - sizeOf quadword ⌝ }
 {
     let size = size(quadword);
-    if bytes < size {
-        return 0;
-    }
-    (bytes - size + 1) as u32
+    (larger(bytes + 1, size) - size) as u32
 }
 
 // An element is fine, by tests of 32 bits and no branch, several of which the machine does at once.

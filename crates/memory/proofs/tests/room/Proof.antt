@@ -8,17 +8,21 @@ use Rattle.memory.proofs.tests.room.Tie as tie
 size-requires : tie.Need-size-requires
 size-requires c κs = search needs
 
-returns : tie.Need-returns
-returns c = search needs
+add-larger : tie.Need-add-larger
+add-larger c = search needs
 
-add-result : tie.Need-add-result
-add-result c = search needs
+larger-requires : tie.Need-larger-requires
+larger-requires c κs = search needs
+
+sub-result : tie.Need-sub-result
+sub-result c = search needs
 
 cast-result : tie.Need-cast-result
 cast-result c = record { fits = omega (arith, size-some (c .before .before .args .quadword) (c .before .size .result) (c .before .size .ensures)) }
 
-returns-2 : tie.Need-returns-2
-returns-2 c = search needs
+returns : tie.Need-returns
+returns c = search needs
 
 pub room-spec : {M : Type 1} → statement M
-room-spec = tie.close (tie.spec size-requires returns add-result cast-result returns-2)
+room-spec =
+    tie.close (tie.spec size-requires add-larger larger-requires sub-result cast-result returns)
