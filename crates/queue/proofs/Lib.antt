@@ -18,9 +18,10 @@ pub mod Accepting
 pub mod Through
 pub mod Calls
 pub mod Sets
-pub mod Tally
 pub mod Filling
 pub mod Touching
+pub mod Sweeping
+pub mod Coming
 pub mod CheckLoop
 pub mod Marking
 pub mod RunLoop

@@ -1,16 +1,16 @@
--- The pass over an order list with sets of positions: what the marks say, and that the code's tests are the check's. Assumes nothing.
+-- The pass over an order list with sets of positions: what the sets say, and that the code's tests are the check's. Assumes nothing.
 use mathlib.Core.Path.{_≡_, refl, sym, ap, ap₂, _∙_, subst}
 use mathlib.Core.Logic.{_⊎_, inl, inr}
 use mathlib.Core.Bool.{Bool, true, false, not, _&&_, _||_}
 use mathlib.Core.List.{List}
 use Prim.Native.Nat.{ℕ, zero, suc, _+_, _-_, _*_, _/_, _%_, _^_, _<_, _≤_, zero-le}
 use native.Mathlib.Omega.{arith}
-use native.Mathlib.Decide.{ℕ-discrete}
-use borrow.Author.Tests.{eq-eqb, ne-eqb, eqb-true, ltb-true, lt-ltb}
+use native.Mathlib.Numerals.{add-one}
+use native.Mathlib.Decide.{ℕ-discrete, decLt}
+use borrow.Author.Tests.{eq-eqb, ne-eqb, eqb-true, ltb-true, lt-ltb, le-ltb}
 use lib.Dec.{T, eqb, ltb}
-use lib.Bits.{bitOr}
-use lib.ListN.{length, getD, set, replicate, length-set}
-use lib.Seq.{getD-set-same, getD-set-other}
+use lib.Bits.{bitAnd}
+use lib.ListN.{length, getD, replicate}
 use Rattle.numbers.specs.Choice.{pick}
 use Rattle.numbers.specs.Bits.{bit, complement}
 use lib.Pow.{pow-pos}
@@ -18,13 +18,12 @@ use Rattle.numbers.proofs.BitLaws.{one-shifted}
 use Rattle.queue.specs.declared.Verdict.the-variants.{Permitted, Refused}
 use Rattle.queue.specs.Order.{Mem, has, each, check}
 use Rattle.queue.specs.Touch.{position, element}
-use Rattle.queue.specs.Tables.{joined, joinedIf, within, countBy, isStepBy, stepsBy, followsBy, verdictBy, Marks, marks, hasCome, seenBy, mayCome, marked, fullAtStart}
+use Rattle.queue.specs.Tables.{joinedIf, within, countBy, isStepBy, stepsBy, followsBy, verdictBy, hasCome, everywhere, ready, mayCome, Came, Started}
 use Rattle.queue.proofs.Tests.{T-true, each→, →each, has→mem, mem→has}
 use Rattle.queue.proofs.Places.{same-bool, true-T}
 use Rattle.queue.proofs.Steps.{passing→, →passing}
 use Rattle.queue.proofs.Accepting.{both}
-use Rattle.queue.proofs.Sets.{bit-or, bit-none, bit-joined, bit-joined-if, bit-below, bit-complement, within→, →within}
-use Rattle.queue.proofs.Tally.{tally, tally-le, tally-same, tally-none, all-tally, tally-all, tally-more}
+use Rattle.queue.proofs.Sets.{bit-and, bit-none, bit-joined-if, bit-below, bit-complement, within→, →within}
 use Rattle.queue.proofs.CheckLoop.{CheckInv, mayBy, check-start, check-stop, check-on, check-end}
 
 -- the set of the positions below n is worked out without wrapping
@@ -32,10 +31,6 @@ pub ones-fit : (n : ℕ) → n ≤ 16 → 1 ≤ 1 * 2 ^ n % 18446744073709551616
 ones-fit n h = rw (one-shifted n 64 (omega arith)) (pow-pos n)
 
 -- ---- tests
-either : (a b : Bool) → a || b ≡ true → (a ≡ true) ⊎ (b ≡ true)
-either true b e = inl refl
-either false b e = inr e
-
 not-both : (a b : Bool) → a ≡ true → b ≡ true → a && b ≡ true
 not-both a b e f = ap₂ (λ (x y : Bool). x && y) e f
 
@@ -60,47 +55,49 @@ position-at k e h = omega arith
 element-at : (k e : ℕ) → e < 64 → element (k * 64 + e) ≡ e
 element-at k e h = omega arith
 
-pub come-at : (came : List ℕ) (k e : ℕ) → e < 64 → hasCome came (k * 64 + e) ≡ bit (getD came e 0) k
+come-at : (came : List ℕ) (k e : ℕ) → e < 64 → hasCome came (k * 64 + e) ≡ bit (getD came e 0) k
 come-at came k e h = ap₂ (λ (i j : ℕ). bit (getD came i 0) j) (element-at k e h) (position-at k e h)
 
--- the marks after one more has come
-pub come-more : (came : List ℕ) (x y : ℕ) → length came ≡ 64
-    → hasCome (set came (element x) (joined (getD came (element x) 0) (position x))) y ≡ (eqb y x || hasCome came y)
-come-more came x y long = go (ℕ-discrete (element y) (element x)) (ℕ-discrete (position y) (position x))
+-- ---- the positions that hold no element up
+pub everywhere→ : (came : List ℕ) (n k : ℕ) → bit (everywhere came n) k ≡ true → (e : ℕ) → e < n → bit (getD came e 0) k ≡ true
+unfolding everywhere
+everywhere→ came zero k f e h = absurd (none h)
   where
-    new : ℕ
-    new = joined (getD came (element x) 0) (position x)
+    none : e < 0 → ⊥
+    none g = omega arith
+everywhere→ came (suc n) k f e h =
+    let u = both (bit (everywhere came n) k) (bit (getD came n 0) k) (sym (bit-and (everywhere came n) (getD came n 0) k) ∙ f) in
+    go (ℕ-discrete e n) (u .1) (λ g. everywhere→ came n k (u .0) e g)
+  where
+    go : Dec (e ≡ n) → bit (getD came n 0) k ≡ true → (e < n → bit (getD came e 0) k ≡ true) → bit (getD came e 0) k ≡ true
+    go (yes z) v r = ap (λ (j : ℕ). bit (getD came j 0) k) z ∙ v
+    go (no z) v r = r (omega arith)
 
-    room : element x < length came
-    room = omega arith
+pub →everywhere : (came : List ℕ) (n k : ℕ) → k < 64 → ((e : ℕ) → e < n → bit (getD came e 0) k ≡ true) → bit (everywhere came n) k ≡ true
+unfolding everywhere
+→everywhere came zero k h f = bit-below 64 k ∙ lt-ltb k 64 h
+→everywhere came (suc n) k h f =
+    bit-and (everywhere came n) (getD came n 0) k
+    ∙ not-both _ _ (→everywhere came n k h (λ e g. f e (omega arith))) (f n (omega arith))
 
-    go : Dec (element y ≡ element x) → Dec (position y ≡ position x) → hasCome (set came (element x) (joined (getD came (element x) 0) (position x))) y ≡ (eqb y x || hasCome came y)
-    go (yes e) d =
-        ap (λ (i : ℕ). bit (getD (set came (element x) (joined (getD came (element x) 0) (position x))) i 0) (position y)) e
-        ∙ ap (λ (s : ℕ). bit s (position y)) (getD-set-same came (element x) (joined (getD came (element x) 0) (position x)) 0 room)
-        ∙ bit-joined (getD came (element x) 0) (position x) (position y)
-        ∙ ap₂ (λ (t : Bool) (i : ℕ). t || bit (getD came i 0) (position y)) (at d) (sym e)
-      where
-        at : Dec (position y ≡ position x) → eqb (position y) (position x) ≡ eqb y x
-        at (yes f) = eq-eqb (position y) (position x) f ∙ sym (eq-eqb y x (omega arith))
-        at (no f) = ne-eqb (position y) (position x) f ∙ sym (ne-eqb y x (λ z. f (ap (λ (i : ℕ). i / 64) z)))
-    go (no e) d =
-        ap (λ (s : ℕ). bit s (position y)) (getD-set-other came (element x) (element y) (joined (getD came (element x) 0) (position x)) 0 e)
-        ∙ ap (λ (t : Bool). t || hasCome came y) (sym (ne-eqb y x (λ z. e (ap (λ (i : ℕ). i % 64) z))))
+-- one element more
+pub everywhere-more : (came : List ℕ) (e all : ℕ) → all ≡ everywhere came e → bitAnd all (getD came e 0) ≡ everywhere came (e + 1)
+unfolding everywhere
+everywhere-more came e all h = ap (λ (a : ℕ). bitAnd a (getD came e 0)) h ∙ sym (ap (everywhere came) (add-one e))
 
 module _ (n vlr iotas : ℕ) where
   pub record IsStep (x : ℕ) : Type 0 where
     pub at : position x < n
     pub of : element x < countBy vlr iotas (position x)
 
-  -- what the marks say after i entries
-  pub record Marked (bound list : List ℕ) (m : Marks) (i : ℕ) : Type 0 where
-    pub came-long : length (m .came) ≡ 64
-    pub gone-long : length (m .gone) ≡ 16
-    pub on : CheckInv (followsBy iotas bound) (stepsBy n vlr iotas) list (hasCome (m .came)) i
-    pub only : (y : ℕ) → hasCome (m .came) y ≡ true → y < 1024 → IsStep y
-    pub tallied : (k : ℕ) → k < n → getD (m .gone) k 0 ≡ tally (λ (e : ℕ). hasCome (m .came) (k * 64 + e)) (countBy vlr iotas k)
-    pub fulls : (k : ℕ) → k < n → bit (m .full) k ≡ eqb (getD (m .gone) k 0) (countBy vlr iotas k)
+  -- what the sets say after i entries
+  pub record Marked (bound list came : List ℕ) (i : ℕ) : Type 0 where
+    pub long : length came ≡ 64
+    pub on : CheckInv (followsBy iotas bound) (stepsBy n vlr iotas) list (hasCome came) i
+    -- no position but an IOTA holds the elements from VLR on up
+    pub beyond : (k e : ℕ) → k < n → bit iotas k ≡ false → vlr ≤ e → e < 64 → bit (getD came e 0) k ≡ true
+    -- an IOTA holds every element up, or none
+    pub alike : (k e : ℕ) → k < n → bit iotas k ≡ true → e < 64 → bit (getD came e 0) k ≡ bit (getD came 0 0) k
 
 module _ (n vlr iotas : ℕ) (few : n ≤ 16) (short : vlr ≤ 64) where
   count-le : (k : ℕ) → countBy vlr iotas k ≤ 64
@@ -147,267 +144,235 @@ module _ (n vlr iotas : ℕ) (few : n ≤ 16) (short : vlr ≤ 64) where
         of = rw (p, element-at k e (omega arith)) g;
       }
 
+  -- an IOTA's one step
+  first : (y : ℕ) → IsStep n vlr iotas y → bit iotas (position y) ≡ true → element y ≡ 0
+  first y s e = let h : element y < pick true 1 vlr = subst (λ (b : Bool). element y < pick b 1 vlr) e (s .of) in omega arith
+
   module _ (bound : List ℕ) (earlier : (p k : ℕ) → p < n → bit (getD bound p 0) k ≡ true → k < p) where
-    module _ (list : List ℕ) (m : Marks) (i : ℕ) (inv : Marked n vlr iotas bound list m i) where
-      -- a position is full exactly where each of its steps has come
-      full→ : (k : ℕ) → k < n → bit (m .full) k ≡ true → (e : ℕ) → e < countBy vlr iotas k → hasCome (m .came) (k * 64 + e) ≡ true
-      full→ k h f =
-          tally-all (λ (e : ℕ). hasCome (m .came) (k * 64 + e)) (countBy vlr iotas k)
-          (sym (inv .tallied k h) ∙ eqb-true (getD (m .gone) k 0) (countBy vlr iotas k) (sym (inv .fulls k h) ∙ f))
-
-      →full : (k : ℕ) → k < n → ((e : ℕ) → e < countBy vlr iotas k → hasCome (m .came) (k * 64 + e) ≡ true) → bit (m .full) k ≡ true
-      →full k h f =
-          inv .fulls k h
-          ∙ eq-eqb (getD (m .gone) k 0) (countBy vlr iotas k)
-          (inv .tallied k h ∙ all-tally (λ (e : ℕ). hasCome (m .came) (k * 64 + e)) (countBy vlr iotas k) f)
-
-      full-step : (a : ℕ) → IsStep n vlr iotas a → bit (m .full) (position a) ≡ true → hasCome (m .came) a ≡ true
-      full-step a s f = subst (λ (y : ℕ). hasCome (m .came) y ≡ true) (whole-step a) (full→ (position a) (s .at) f (element a) (s .of))
+    module _ (list came : List ℕ) (i : ℕ) (inv : Marked n vlr iotas bound list came i) where
+      -- position k holds element e up no more, where its steps have come
+      held : (k e : ℕ) → k < n → e < 64 → ((j : ℕ) → j < countBy vlr iotas k → (bit iotas k || eqb j e) ≡ true → hasCome came (k * 64 + j) ≡ true) → bit (getD came e 0) k ≡ true
+      held k e h g f = go (bit iotas k) refl (decLt e vlr)
+        where
+          go : (b : Bool) → bit iotas k ≡ b → Dec (e < vlr) → bit (getD came e 0) k ≡ true
+          go true z d =
+              inv .alike k e h z g
+              ∙ sym (come-at came k 0 (omega arith))
+              ∙ f 0 (subst (λ (b : Bool). 0 < pick b 1 vlr) (sym z) (omega arith)) (ap (λ (b : Bool). b || eqb 0 e) z)
+          go false z (yes d) =
+              sym (come-at came k e g)
+              ∙ f e (subst (λ (b : Bool). e < pick b 1 vlr) (sym z) d) (ap₂ (λ (a b : Bool). a || b) z (eq-eqb e e refl))
+          go false z (no d) = inv .beyond k e h z (omega arith) g
 
       -- ---- an entry that is a step
       module _ (x : ℕ) (sx : IsStep n vlr iotas x) where
-        follows-at : (k e : ℕ) → e < 64 → bit (getD bound (position x) 0) k ≡ true → (bit iotas k || bit iotas (position x) || eqb e (element x)) ≡ true → followsBy iotas bound (k * 64 + e) x ≡ true
+        abbrev needed : ℕ
+        needed = getD bound (position x) 0
+
+        abbrev awaited : ℕ → Bool
+        awaited a = not (followsBy iotas bound a x) || hasCome came a
+
+        follows-at : (k e : ℕ) → e < 64 → bit needed k ≡ true → (bit iotas k || bit iotas (position x) || eqb e (element x)) ≡ true → followsBy iotas bound (k * 64 + e) x ≡ true
         unfolding followsBy
         follows-at k e h f g =
             ap₂ (λ (p j : ℕ). bit (getD bound (position x) 0) p && (bit iotas p || bit iotas (position x) || eqb j (element x))) (position-at k e h) (element-at k e h)
             ∙ not-both (bit (getD bound (position x) 0) k) _ f g
 
-        -- the entry's test by marks, in full
-        abbrev awaited : ℕ → Bool
-        awaited a = not (followsBy iotas bound a x) || hasCome (m .came) a
-
-        abbrev needed : ℕ
-        needed = getD bound (position x) 0
-
-        -- every step that x must follow has come: no position holds it up
-        module _ (t : T (each awaited (stepsBy n vlr iotas))) where
-          comes : (k e : ℕ) → k < n → e < countBy vlr iotas k → bit needed k ≡ true → (bit iotas k || bit iotas (position x) || eqb e (element x)) ≡ true → hasCome (m .came) (k * 64 + e) ≡ true
-          comes k e h g f o =
-              let small = count-le k in
-              implies (followsBy iotas bound (k * 64 + e) x) (hasCome (m .came) (k * 64 + e))
-              (each→ awaited (stepsBy n vlr iotas) t (k * 64 + e) (step→mem (k * 64 + e) (step-at k e h g)))
-              (follows-at k e (omega arith) f o)
-
-          fills : (k : ℕ) → bit needed k ≡ true → bit iotas k || bit iotas (position x) ≡ true → bit (m .full) k ≡ true
-          fills k f o =
-              let s = sx .at in let l = earlier (position x) k (sx .at) f in
-              →full k (omega arith) (λ e g. comes k e (omega arith) g f (ap (λ (b : Bool). b || eqb e (element x)) o))
-
-          seen-at : (ip ik : Bool) → bit iotas (position x) ≡ ip → (k : ℕ) → bit iotas k ≡ ik → bit needed k ≡ true → bit (pick ip (m .full) (bitOr (getD (m .came) (element x) 0) (m .full))) k ≡ true
-          seen-at true ik ep k ek f = fills k f (ap₂ (λ (a b : Bool). a || b) ek ep ∙ right ik)
-            where
-              right : (b : Bool) → b || true ≡ true
-              right true = refl
-              right false = refl
-          seen-at false true ep k ek f =
-              bit-or (getD (m .came) (element x) 0) (m .full) k
-              ∙ ap (λ (b : Bool). bit (getD (m .came) (element x) 0) k || b) (fills k f (ap (λ (a : Bool). a || bit iotas (position x)) ek))
-              ∙ right (bit (getD (m .came) (element x) 0) k)
-            where
-              right : (b : Bool) → b || true ≡ true
-              right true = refl
-              right false = refl
-          seen-at false false ep k ek f =
-              let s = sx .at in let l = earlier (position x) k (sx .at) f in
-              let mine : element x < pick false 1 vlr = subst (λ (b : Bool). element x < pick b 1 vlr) ep (sx .of) in
-              let its : element x < countBy vlr iotas k = subst (λ (b : Bool). element x < pick b 1 vlr) (sym ek) mine in
-              let small : element x < 64 = omega arith in
-              bit-or (getD (m .came) (element x) 0) (m .full) k
-              ∙ ap (λ (b : Bool). b || bit (m .full) k)
-              (sym (come-at (m .came) k (element x) small)
-              ∙ comes k (element x) (omega arith) its f
-              (ap₂ (λ (a b : Bool). a || b || eqb (element x) (element x)) ek ep ∙ eq-eqb (element x) (element x) refl))
+        -- every step that x must follow has come: no position that it is bound to holds it up
+        frees : T (each awaited (stepsBy n vlr iotas)) → (k e : ℕ) → bit needed k ≡ true → e < 64 → (bit iotas (position x) || eqb e (element x)) ≡ true → bit (getD came e 0) k ≡ true
+        frees t k e f g o =
+            let s = sx .at in let l = earlier (position x) k (sx .at) f in
+            held k e (omega arith) g (λ j c m.
+            let small = count-le k in
+            implies (followsBy iotas bound (k * 64 + j) x) (hasCome came (k * 64 + j))
+            (each→ awaited (stepsBy n vlr iotas) t (k * 64 + j) (step→mem (k * 64 + j) (step-at k j (omega arith) c)))
+            (follows-at k j (omega arith) f (which (bit iotas k) (bit iotas (position x)) j e (element x) m o)))
+          where
+            which : (a b : Bool) (j d y : ℕ) → (a || eqb j d) ≡ true → (b || eqb d y) ≡ true → (a || b || eqb j y) ≡ true
+            which true b j d y u v = refl
+            which false true j d y u v = refl
+            which false false j d y u v = eq-eqb j y (eqb-true j d u ∙ eqb-true d y v)
 
         -- no position holds x up: every step that it must follow has come
-        module _ (w : within needed (seenBy iotas m x) ≡ true) where
-          after : (a : ℕ) → IsStep n vlr iotas a → (ip ia : Bool) → bit iotas (position x) ≡ ip → bit iotas (position a) ≡ ia
-              → (ia || ip || eqb (element a) (element x)) ≡ true
-              → bit (pick ip (m .full) (bitOr (getD (m .came) (element x) 0) (m .full))) (position a) ≡ true
-              → hasCome (m .came) a ≡ true
-          after a sa true ia ep ea o f = full-step a sa f
-          after a sa false ia ep ea o f =
-              elim (either (bit (getD (m .came) (element x) 0) (position a)) (bit (m .full) (position a)) (sym (bit-or (getD (m .came) (element x) 0) (m .full) (position a)) ∙ f)) [
-                | inl g ↦ subst (λ (e : ℕ). bit (getD (m .came) e 0) (position a) ≡ true) (sym (same ia ea o g)) g
-                | inr g ↦ full-step a sa g
-              ]
-            where
-              small : element x < 64
-              small = omega arith
+        follows-come : (a : ℕ) → IsStep n vlr iotas a → followsBy iotas bound a x ≡ true
+            → ((e : ℕ) → e < 64 → (bit iotas (position x) || eqb e (element x)) ≡ true → bit needed (position a) ≡ true → bit (getD came e 0) (position a) ≡ true)
+            → hasCome came a ≡ true
+        unfolding followsBy
+        follows-come a sa f w =
+            let u = both (bit needed (position a)) (bit iotas (position a) || bit iotas (position x) || eqb (element a) (element x)) f in
+            go (bit iotas (position a)) (bit iotas (position x)) refl refl (u .1) (u .0)
+          where
+            go : (ia ix : Bool) → bit iotas (position a) ≡ ia → bit iotas (position x) ≡ ix → (ia || ix || eqb (element a) (element x)) ≡ true → bit needed (position a) ≡ true → hasCome came a ≡ true
+            go ia true za zx o v = w (element a) (omega arith) (ap (λ (b : Bool). b || eqb (element a) (element x)) zx) v
+            go true false za zx o v =
+                ap (λ (e : ℕ). bit (getD came e 0) (position a)) (first a sa za)
+                ∙ sym (inv .alike (position a) (element x) (sa .at) za (omega arith))
+                ∙ w (element x) (omega arith) (ap₂ (λ (p q : Bool). p || q) zx (eq-eqb (element x) (element x) refl)) v
+            go false false za zx o v = w (element a) (omega arith) (ap₂ (λ (p q : Bool). p || q) zx o) v
 
-              -- an IOTA's one step
-              first : (y : ℕ) → IsStep n vlr iotas y → bit iotas (position y) ≡ true → element y ≡ 0
-              first y s e = let h : element y < pick true 1 vlr = subst (λ (b : Bool). element y < pick b 1 vlr) e (s .of) in omega arith
+        -- the sets that the code looks at
+        abbrev seen : Bool → ℕ
+        seen b = pick b (everywhere came 64) (getD came (element x) 0)
 
-              same : (i : Bool) → bit iotas (position a) ≡ i → (i || false || eqb (element a) (element x)) ≡ true → bit (getD (m .came) (element x) 0) (position a) ≡ true → element a ≡ element x
-              same false e k g = eqb-true (element a) (element x) k
-              same true e k g =
-                  let y : ℕ = position a * 64 + element x in
-                  let lt = step-lt a sa in
-                  let p : position (position a * 64 + element x) ≡ position a = position-at (position a) (element x) small in
-                  let z = first (position a * 64 + element x) (inv .only (position a * 64 + element x) (come-at (m .came) (position a) (element x) small ∙ g) (omega arith)) (ap (bit iotas) p ∙ e) in
-                  first a sa e ∙ sym (sym (element-at (position a) (element x) small) ∙ z)
+        seen→ : (b : Bool) → bit iotas (position x) ≡ b → (k : ℕ) → bit (seen b) k ≡ true → (e : ℕ) → e < 64 → (bit iotas (position x) || eqb e (element x)) ≡ true → bit (getD came e 0) k ≡ true
+        seen→ true z k f e g o = everywhere→ came 64 k f e g
+        seen→ false z k f e g o = ap (λ (j : ℕ). bit (getD came j 0) k) (eqb-true e (element x) (sym (ap (λ (b : Bool). b || eqb e (element x)) z) ∙ o)) ∙ f
 
-          passes : (a : ℕ) → Mem a (stepsBy n vlr iotas) → T (awaited a)
-          unfolding followsBy
-          passes a mem =
-              implied (followsBy iotas bound a x) (hasCome (m .came) a)
-              (λ e.
-              let u = both (bit needed (position a)) (bit iotas (position a) || bit iotas (position x) || eqb (element a) (element x)) e in
-              after a (mem→step a mem) (bit iotas (position x)) (bit iotas (position a)) refl refl (u .1) (within→ needed (seenBy iotas m x) w (position a) (u .0)))
+        →seen : (b : Bool) → bit iotas (position x) ≡ b → (k : ℕ) → k < 64 → ((e : ℕ) → e < 64 → (bit iotas (position x) || eqb e (element x)) ≡ true → bit (getD came e 0) k ≡ true) → bit (seen b) k ≡ true
+        →seen true z k h f = →everywhere came 64 k h (λ e g. f e g (ap (λ (b : Bool). b || eqb e (element x)) z))
+        →seen false z k h f = f (element x) (omega arith) (ap₂ (λ (p q : Bool). p || q) z (eq-eqb (element x) (element x) refl))
 
-        ready-same : each awaited (stepsBy n vlr iotas) ≡ within needed (seenBy iotas m x)
-        ready-same =
-            same-bool (each awaited (stepsBy n vlr iotas)) (within needed (seenBy iotas m x))
-            (λ t. T-true _ (→within needed (seenBy iotas m x) (λ k. seen-at t (bit iotas (position x)) (bit iotas k) refl k refl)))
-            (λ t. →each awaited (stepsBy n vlr iotas) (passes (true-T _ t)))
+        ready-same : (b : Bool) → bit iotas (position x) ≡ b → each awaited (stepsBy n vlr iotas) ≡ within needed (seen b)
+        ready-same b z =
+            same-bool (each awaited (stepsBy n vlr iotas)) (within needed (seen b))
+            (λ t. T-true _ (→within needed (seen b) (λ k f.
+            let s = sx .at in let l = earlier (position x) k (sx .at) f in
+            →seen b z k (omega arith) (λ e g o. frees t k e f g o))))
+            (λ t. →each awaited (stepsBy n vlr iotas) (λ a m.
+            implied (followsBy iotas bound a x) (hasCome came a) (λ f.
+            follows-come a (mem→step a m) f (λ e g o v. seen→ b z (position a) (within→ needed (seen b) (true-T _ t) (position a) v) e g o))))
+
+        -- x itself
+        fresh-same : (b : Bool) → bit iotas (position x) ≡ b → bit (seen b) (position x) ≡ hasCome came x
+        fresh-same false z = refl
+        fresh-same true z =
+            same-bool (bit (everywhere came 64) (position x)) (hasCome came x)
+            (λ t. T-true _ (everywhere→ came 64 (position x) (true-T _ t) (element x) (omega arith)))
+            (λ t. T-true _ (let s = sx .at in →everywhere came 64 (position x) (omega arith) (λ e g.
+            inv .alike (position x) e (sx .at) z g ∙ sym (ap (λ (j : ℕ). bit (getD came j 0) (position x)) (first x sx z)) ∙ true-T _ t)))
+
+        entry-same : (b : Bool) → bit iotas (position x) ≡ b → (not (hasCome came x) && each awaited (stepsBy n vlr iotas)) ≡ ready needed (seen b) (position x)
+        entry-same b z = ap₂ (λ (u v : Bool). not u && v) (sym (fresh-same b z)) (ready-same b z)
 
       -- THE CODE'S TEST IS THE CHECK'S
-      may-same : (x : ℕ) → mayBy (followsBy iotas bound) (stepsBy n vlr iotas) (hasCome (m .came)) x ≡ mayCome n vlr iotas bound m x
-      unfolding mayBy mayCome
+      may-same : (x : ℕ) → mayBy (followsBy iotas bound) (stepsBy n vlr iotas) (hasCome came) x ≡ mayCome n iotas bound came x
+      unfolding mayBy mayCome isStepBy
       may-same x =
-          ap (λ (b : Bool). b && (not (hasCome (m .came) x) && each (λ (a : ℕ). not (followsBy iotas bound a x) || hasCome (m .came) a) (stepsBy n vlr iotas))) (has-step x)
-          ∙ go (isStepBy n vlr iotas x) refl
+          ap (λ (b : Bool). b && (not (hasCome came x) && each (λ (a : ℕ). not (followsBy iotas bound a x) || hasCome came a) (stepsBy n vlr iotas))) (has-step x)
+          ∙ go (decLt (position x) n) (bit iotas (position x)) refl
         where
-          go : (b : Bool) → isStepBy n vlr iotas x ≡ b
-              → (b && (not (hasCome (m .came) x) && each (λ (a : ℕ). not (followsBy iotas bound a x) || hasCome (m .came) a) (stepsBy n vlr iotas)))
-              ≡ (b && (not (hasCome (m .came) x) && within (getD bound (position x) 0) (seenBy iotas m x)))
-          go true e = ap (λ (b : Bool). not (hasCome (m .came) x) && b) (ready-same x (step→ x e))
-          go false e = refl
+          rest : Bool
+          rest = not (hasCome came x) && each (λ (a : ℕ). not (followsBy iotas bound a x) || hasCome came a) (stepsBy n vlr iotas)
 
-      -- the code's answers
-      pub entry-stops : i < length list → mayCome n vlr iotas bound m (getD list i 0) ≡ false → Refused i ≡ verdictBy n vlr iotas bound list
+          core : position x < n → (b : Bool) → bit iotas (position x) ≡ b
+              → (ltb (element x) (pick b 1 vlr) && rest)
+              ≡ pick b (eqb (element x) 0 && ready (getD bound (position x) 0) (everywhere came 64) (position x)) (ready (getD bound (position x) 0) (getD came (element x) 0) (position x))
+          core h true z = by (ℕ-discrete (element x) 0)
+            where
+              by : Dec (element x ≡ 0) → (ltb (element x) 1 && rest) ≡ (eqb (element x) 0 && ready (getD bound (position x) 0) (everywhere came 64) (position x))
+              by (yes e) =
+                  ap (λ (t : Bool). t && rest) (lt-ltb (element x) 1 (omega arith))
+                  ∙ entry-same x (record { at = h; of = subst (λ (b : Bool). element x < pick b 1 vlr) (sym z) (omega arith) }) true z
+                  ∙ sym (ap (λ (t : Bool). t && ready (getD bound (position x) 0) (everywhere came 64) (position x)) (eq-eqb (element x) 0 e))
+              by (no e) =
+                  ap (λ (t : Bool). t && rest) (le-ltb (element x) 1 (omega arith))
+                  ∙ sym (ap (λ (t : Bool). t && ready (getD bound (position x) 0) (everywhere came 64) (position x)) (ne-eqb (element x) 0 e))
+          core h false z = by (decLt (element x) vlr)
+            where
+              by : Dec (element x < vlr) → (ltb (element x) vlr && rest) ≡ ready (getD bound (position x) 0) (getD came (element x) 0) (position x)
+              by (yes e) =
+                  ap (λ (t : Bool). t && rest) (lt-ltb (element x) vlr e)
+                  ∙ entry-same x (record { at = h; of = subst (λ (b : Bool). element x < pick b 1 vlr) (sym z) e }) false z
+              by (no e) =
+                  ap (λ (t : Bool). t && rest) (le-ltb (element x) vlr (omega arith))
+                  ∙ sym (ap (λ (t : Bool). not t && within (getD bound (position x) 0) (getD came (element x) 0)) (inv .beyond (position x) (element x) h z (omega arith) (omega arith)))
+
+          go : Dec (position x < n) → (b : Bool) → bit iotas (position x) ≡ b
+              → ((ltb (position x) n && ltb (element x) (countBy vlr iotas (position x))) && rest)
+              ≡ (ltb (position x) n && pick (bit iotas (position x)) (eqb (element x) 0 && ready (getD bound (position x) 0) (everywhere came 64) (position x)) (ready (getD bound (position x) 0) (getD came (element x) 0) (position x)))
+          go (yes h) b z =
+              ap₂ (λ (t c : Bool). (t && ltb (element x) (pick c 1 vlr)) && rest) (lt-ltb (position x) n h) z
+              ∙ core h b z
+              ∙ sym (ap₂ (λ (t c : Bool). t && pick c (eqb (element x) 0 && ready (getD bound (position x) 0) (everywhere came 64) (position x)) (ready (getD bound (position x) 0) (getD came (element x) 0) (position x))) (lt-ltb (position x) n h) z)
+          go (no h) b z =
+              ap (λ (t : Bool). (t && ltb (element x) (countBy vlr iotas (position x))) && rest) (le-ltb (position x) n (omega arith))
+              ∙ sym (ap (λ (t : Bool). t && pick (bit iotas (position x)) (eqb (element x) 0 && ready (getD bound (position x) 0) (everywhere came 64) (position x)) (ready (getD bound (position x) 0) (getD came (element x) 0) (position x))) (le-ltb (position x) n (omega arith)))
+
+      -- ---- the code's answers
+      pub entry-stops : i < length list → mayCome n iotas bound came (getD list i 0) ≡ false → Refused i ≡ verdictBy n vlr iotas bound list
       unfolding verdictBy
-      entry-stops h e = check-stop (followsBy iotas bound) (stepsBy n vlr iotas) list (hasCome (m .came)) i (inv .on) h (may-same (getD list i 0) ∙ e)
+      entry-stops h e = check-stop (followsBy iotas bound) (stepsBy n vlr iotas) list (hasCome came) i (inv .on) h (may-same (getD list i 0) ∙ e)
 
-      -- no step is missing exactly where every position is full
-      complete : each (hasCome (m .came)) (stepsBy n vlr iotas) ≡ within (2 ^ n - 1) (m .full)
+      -- no step is missing exactly where no position holds an element up
+      complete : each (hasCome came) (stepsBy n vlr iotas) ≡ within (2 ^ n - 1) (everywhere came 64)
       complete =
-          same-bool (each (hasCome (m .came)) (stepsBy n vlr iotas)) (within (2 ^ n - 1) (m .full))
-          (λ t. T-true _ (→within (2 ^ n - 1) (m .full) (λ k b. let h = ltb-true k n (sym (bit-below n k) ∙ b) in
-          →full k h (λ e g. true-T _ (each→ (hasCome (m .came)) (stepsBy n vlr iotas) t (k * 64 + e) (step→mem (k * 64 + e) (step-at k e h g)))))))
-          (λ t. →each (hasCome (m .came)) (stepsBy n vlr iotas) (λ a mem.
+          same-bool (each (hasCome came) (stepsBy n vlr iotas)) (within (2 ^ n - 1) (everywhere came 64))
+          (λ t. T-true _ (→within (2 ^ n - 1) (everywhere came 64) (λ k b.
+          let h = ltb-true k n (sym (bit-below n k) ∙ b) in
+          →everywhere came 64 k (omega arith) (λ e g. held k e h g (λ j c m. true-T _ (each→ (hasCome came) (stepsBy n vlr iotas) t (k * 64 + j) (step→mem (k * 64 + j) (step-at k j h c))))))))
+          (λ t. →each (hasCome came) (stepsBy n vlr iotas) (λ a mem.
           let s = mem→step a mem in
-          T-true _ (full-step a s (within→ (2 ^ n - 1) (m .full) (true-T _ t) (position a) (bit-below n (position a) ∙ lt-ltb (position a) n (s .at))))))
+          T-true _ (everywhere→ came 64 (position a) (within→ (2 ^ n - 1) (everywhere came 64) (true-T _ t) (position a) (bit-below n (position a) ∙ lt-ltb (position a) n (s .at))) (element a) (omega arith))))
 
-      pub list-ends : length list ≤ i → verdictBy n vlr iotas bound list ≡ pick (within (2 ^ n - 1) (m .full)) Permitted (Refused i)
+      pub list-ends : length list ≤ i → (all : ℕ) (r b : Bool) → all ≡ everywhere came 64 → r ≡ within (1 * 2 ^ n % 18446744073709551616 - 1) all → r ≡ b → pick b Permitted (Refused i) ≡ verdictBy n vlr iotas bound list
       unfolding verdictBy
-      list-ends h =
-          check-end (followsBy iotas bound) (stepsBy n vlr iotas) list (hasCome (m .came)) i (inv .on) h
-          ∙ ap (λ (b : Bool). pick b Permitted (Refused i)) complete
-
-      pub list-permitted : length list ≤ i → (r : Bool) → r ≡ within (1 * 2 ^ n % 18446744073709551616 - 1) (m .full) → r ≡ true → Permitted ≡ verdictBy n vlr iotas bound list
-      list-permitted h r e f = sym (list-ends h ∙ ap (λ (b : Bool). pick b Permitted (Refused i)) (sym (e ∙ ap (λ (s : ℕ). within (s - 1) (m .full)) (one-shifted n 64 (omega arith))) ∙ f))
-
-      pub list-lacks : length list ≤ i → (r : Bool) → r ≡ within (1 * 2 ^ n % 18446744073709551616 - 1) (m .full) → r ≡ false → Refused i ≡ verdictBy n vlr iotas bound list
-      list-lacks h r e f = sym (list-ends h ∙ ap (λ (b : Bool). pick b Permitted (Refused i)) (sym (e ∙ ap (λ (s : ℕ). within (s - 1) (m .full)) (one-shifted n 64 (omega arith))) ∙ f))
+      list-ends h all r b e f g =
+          ap (λ (t : Bool). pick t Permitted (Refused i)) (sym g ∙ f ∙ ap₂ (λ (s t : ℕ). within (s - 1) t) (one-shifted n 64 (omega arith)) e ∙ sym complete)
+          ∙ sym (check-end (followsBy iotas bound) (stepsBy n vlr iotas) list (hasCome came) i (inv .on) h)
 
       -- ---- an entry that may come
-      module _ (h : i < length list) (may : mayCome n vlr iotas bound m (getD list i 0) ≡ true) where
-        abbrev x : ℕ
-        x = getD list i 0
+      module _ (h : i < length list) (may : mayCome n iotas bound came (getD list i 0) ≡ true) where
+        entry-step : IsStep n vlr iotas (getD list i 0)
+        unfolding mayBy
+        entry-step = mem→step (getD list i 0) (has→mem (getD list i 0) (stepsBy n vlr iotas) (T-true _ (both (has (getD list i 0) (stepsBy n vlr iotas)) _ (may-same (getD list i 0) ∙ may) .0)))
 
-        allowed : (isStepBy n vlr iotas (getD list i 0) ≡ true) × (not (hasCome (m .came) (getD list i 0)) ≡ true)
-        unfolding mayCome
-        allowed =
-            let u = both (isStepBy n vlr iotas (getD list i 0)) _ may in
-            (u .0, both (not (hasCome (m .came) (getD list i 0))) _ (u .1) .0)
+        module _ (came′ : List ℕ) (comes : Came (bit iotas (position (getD list i 0))) (getD list i 0) came came′) where
+          abbrev x : ℕ
+          x = getD list i 0
 
-        pub entry-step : IsStep n vlr iotas (getD list i 0)
-        entry-step = step→ (getD list i 0) (allowed .0)
+          new-bit : (e k : ℕ) → e < 64 → bit (getD came′ e 0) k ≡ ((bit iotas (position (getD list i 0)) || eqb e (element (getD list i 0))) && eqb k (position (getD list i 0)) || bit (getD came e 0) k)
+          new-bit e k g = ap (λ (v : ℕ). bit v k) (comes .sets e g) ∙ bit-joined-if (bit iotas (position x) || eqb e (element x)) (getD came e 0) (position x) k
 
-        fresh : hasCome (m .came) (getD list i 0) ≡ false
-        fresh = not-is (hasCome (m .came) (getD list i 0)) (allowed .1)
-          where
-            not-is : (b : Bool) → not b ≡ true → b ≡ false
-            not-is true e = sym e
-            not-is false e = refl
+          none : (a : Bool) → (a && false) ≡ false
+          none true = refl
+          none false = refl
 
-        pub gone-le : getD (m .gone) (position (getD list i 0)) 0 ≤ 64
-        gone-le = let s = inv .tallied (position x) (entry-step .at) in
-            omega (arith, tally-le (λ (e : ℕ). hasCome (m .came) (position x * 64 + e)) (countBy vlr iotas (position x)), count-le (position x))
+          always : (a : Bool) → (a || true) ≡ true
+          always true = refl
+          always false = refl
 
-        abbrev came′ : List ℕ
-        came′ = set (m .came) (element x) (joined (getD (m .came) (element x) 0) (position x))
+          -- no other step has come with it
+          alone : (y : ℕ) → IsStep n vlr iotas y → ((bit iotas (position (getD list i 0)) || eqb (element y) (element (getD list i 0))) && eqb (position y) (position (getD list i 0))) ≡ eqb y (getD list i 0)
+          alone y s = go (ℕ-discrete y (getD list i 0)) (ℕ-discrete (position y) (position (getD list i 0))) (bit iotas (position (getD list i 0))) refl
+            where
+              go : Dec (y ≡ getD list i 0) → Dec (position y ≡ position (getD list i 0)) → (b : Bool) → bit iotas (position (getD list i 0)) ≡ b → ((bit iotas (position (getD list i 0)) || eqb (element y) (element (getD list i 0))) && eqb (position y) (position (getD list i 0))) ≡ eqb y (getD list i 0)
+              go (yes e) d b z =
+                  ap₂ (λ (u v : Bool). (bit iotas (position (getD list i 0)) || u) && v) (eq-eqb (element y) (element (getD list i 0)) (ap element e)) (eq-eqb (position y) (position (getD list i 0)) (ap position e))
+                  ∙ ap (λ (u : Bool). u && true) (always (bit iotas (position (getD list i 0))))
+                  ∙ sym (eq-eqb y (getD list i 0) e)
+              go (no e) (no d) b z =
+                  ap (λ (v : Bool). (bit iotas (position (getD list i 0)) || eqb (element y) (element (getD list i 0))) && v) (ne-eqb (position y) (position (getD list i 0)) d)
+                  ∙ none (bit iotas (position (getD list i 0)) || eqb (element y) (element (getD list i 0)))
+                  ∙ sym (ne-eqb y (getD list i 0) e)
+              go (no e) (yes d) true z =
+                  let a = first y s (ap (bit iotas) d ∙ z) in let b = first (getD list i 0) entry-step z in
+                  absurd (e (omega arith))
+              go (no e) (yes d) false z =
+                  ap₂ (λ (u v : Bool). (u || v) && eqb (position y) (position (getD list i 0))) z (ne-eqb (element y) (element (getD list i 0)) (λ w. e (omega arith)))
+                  ∙ sym (ne-eqb y (getD list i 0) e)
 
-        -- the tests of position k's steps
-        abbrev old : ℕ → ℕ → Bool
-        old k e = hasCome (m .came) (k * 64 + e)
-
-        abbrev new : ℕ → ℕ → Bool
-        new k e = hasCome (set (m .came) (element x) (joined (getD (m .came) (element x) 0) (position x))) (k * 64 + e)
-
-        -- x is not full yet
-        not-full : bit (m .full) (position (getD list i 0)) ≡ false
-        not-full = go (bit (m .full) (position x)) refl
-          where
-            go : (b : Bool) → bit (m .full) (position (getD list i 0)) ≡ b → bit (m .full) (position (getD list i 0)) ≡ false
-            go true e = absurd (clash (sym (full-step (getD list i 0) entry-step e) ∙ fresh))
-            go false e = e
-
-        gone′ : (k : ℕ) → k < n → Dec (k ≡ position (getD list i 0))
-            → getD (set (m .gone) (position (getD list i 0)) (getD (m .gone) (position (getD list i 0)) 0 + 1)) k 0
-            ≡ tally (λ (e : ℕ). hasCome (set (m .came) (element (getD list i 0)) (joined (getD (m .came) (element (getD list i 0)) 0) (position (getD list i 0)))) (k * 64 + e)) (countBy vlr iotas k)
-        gone′ k l (yes e) =
-            let s = entry-step in
-            ap (λ (j : ℕ). getD (set (m .gone) (position x) (getD (m .gone) (position x) 0 + 1)) j 0) e
-            ∙ getD-set-same (m .gone) (position x) (getD (m .gone) (position x) 0 + 1) 0 (let g = inv .gone-long in let u = s .at in omega arith)
-            ∙ ap (λ (j : ℕ). j + 1) (inv .tallied (position x) (s .at))
-            ∙ sym (tally-more (old (position x)) (new (position x)) (countBy vlr iotas (position x)) (element x) (s .of)
-            (subst (λ (y : ℕ). hasCome (m .came) y ≡ false) (sym (whole-step x)) fresh)
-            (λ j g. come-more (m .came) x (position x * 64 + j) (inv .came-long) ∙ ap (λ (b : Bool). b || old (position x) j) (named j)))
-            ∙ ap (λ (j : ℕ). tally (new j) (countBy vlr iotas j)) (sym e)
-          where
-            named : (j : ℕ) → eqb (position (getD list i 0) * 64 + j) (getD list i 0) ≡ eqb j (element (getD list i 0))
-            named j = go′ (ℕ-discrete j (element (getD list i 0)))
-              where
-                go′ : Dec (j ≡ element (getD list i 0)) → eqb (position (getD list i 0) * 64 + j) (getD list i 0) ≡ eqb j (element (getD list i 0))
-                go′ (yes z) = eq-eqb (position (getD list i 0) * 64 + j) (getD list i 0) (omega arith) ∙ sym (eq-eqb j (element (getD list i 0)) z)
-                go′ (no z) = ne-eqb (position (getD list i 0) * 64 + j) (getD list i 0) (λ w. z (omega arith)) ∙ sym (ne-eqb j (element (getD list i 0)) z)
-        gone′ k l (no e) =
-            getD-set-other (m .gone) (position x) k (getD (m .gone) (position x) 0 + 1) 0 e
-            ∙ inv .tallied k l
-            ∙ tally-same (old k) (new k) (countBy vlr iotas k) (λ j g.
-            let small = count-le k in
-            sym (come-more (m .came) x (k * 64 + j) (inv .came-long) ∙ ap (λ (b : Bool). b || old k j) (ne-eqb (k * 64 + j) x (λ w. e (sym (position-at k j (omega arith)) ∙ ap position w)))))
-
-        fulls′ : (k : ℕ) → k < n → Dec (k ≡ position (getD list i 0))
-            → bit (joinedIf (eqb (getD (m .gone) (position (getD list i 0)) 0 + 1) (countBy vlr iotas (position (getD list i 0)))) (m .full) (position (getD list i 0))) k
-            ≡ eqb (getD (set (m .gone) (position (getD list i 0)) (getD (m .gone) (position (getD list i 0)) 0 + 1)) k 0) (countBy vlr iotas k)
-        fulls′ k l (yes e) =
-            bit-joined-if (eqb (getD (m .gone) (position x) 0 + 1) (countBy vlr iotas (position x))) (m .full) (position x) k
-            ∙ ap₂ (λ (a b : Bool). eqb (getD (m .gone) (position x) 0 + 1) (countBy vlr iotas (position x)) && a || b) (eq-eqb k (position x) e) (ap (bit (m .full)) e ∙ not-full)
-            ∙ alone (eqb (getD (m .gone) (position x) 0 + 1) (countBy vlr iotas (position x)))
-            ∙ sym (ap (λ (j : ℕ). eqb (getD (set (m .gone) (position x) (getD (m .gone) (position x) 0 + 1)) j 0) (countBy vlr iotas j)) e
-            ∙ ap (λ (v : ℕ). eqb v (countBy vlr iotas (position x))) (getD-set-same (m .gone) (position x) (getD (m .gone) (position x) 0 + 1) 0 (let g = inv .gone-long in let u = entry-step .at in omega arith)))
-          where
-            alone : (b : Bool) → (b && true || false) ≡ b
-            alone true = refl
-            alone false = refl
-        fulls′ k l (no e) =
-            bit-joined-if (eqb (getD (m .gone) (position x) 0 + 1) (countBy vlr iotas (position x))) (m .full) (position x) k
-            ∙ ap (λ (a : Bool). eqb (getD (m .gone) (position x) 0 + 1) (countBy vlr iotas (position x)) && a || bit (m .full) k) (ne-eqb k (position x) e)
-            ∙ aside (eqb (getD (m .gone) (position x) 0 + 1) (countBy vlr iotas (position x))) (bit (m .full) k)
-            ∙ inv .fulls k l
-            ∙ ap (λ (v : ℕ). eqb v (countBy vlr iotas k)) (sym (getD-set-other (m .gone) (position x) k (getD (m .gone) (position x) 0 + 1) 0 e))
-          where
-            aside : (a b : Bool) → (a && false || b) ≡ b
-            aside true b = refl
-            aside false b = refl
-
-        pub entry-comes : (m′ : Marks) → m′ ≡ marked vlr iotas (getD list i 0) m → Marked n vlr iotas bound list m′ (i + 1)
-        unfolding marked
-        entry-comes m′ e = subst (λ (v : Marks). Marked n vlr iotas bound list v (i + 1)) (sym e) (record {
-          came-long = simp length-set (inv .came-long);
-          gone-long = simp length-set (inv .gone-long);
-          on = check-on (followsBy iotas bound) (stepsBy n vlr iotas) list (hasCome (m .came)) i (inv .on) h (may-same x ∙ may) (hasCome came′) (λ y mem. come-more (m .came) x y (inv .came-long));
-          only = λ y c l. one y c l (ℕ-discrete y x);
-          tallied = λ k l. gone′ k l (ℕ-discrete k (position x));
-          fulls = λ k l. fulls′ k l (ℕ-discrete k (position x));
-        })
-          where
-            one : (y : ℕ) → hasCome (set (m .came) (element (getD list i 0)) (joined (getD (m .came) (element (getD list i 0)) 0) (position (getD list i 0)))) y ≡ true → y < 1024 → Dec (y ≡ getD list i 0) → IsStep n vlr iotas y
-            one y c l (yes z) = subst (IsStep n vlr iotas) (sym z) entry-step
-            one y c l (no z) = inv .only y (sym (come-more (m .came) (getD list i 0) y (inv .came-long) ∙ ap (λ (b : Bool). b || hasCome (m .came) y) (ne-eqb y (getD list i 0) z)) ∙ c) l
+          pub entry-comes : Marked n vlr iotas bound list came′ (i + 1)
+          entry-comes = record {
+            long = comes .long ∙ inv .long;
+            on = check-on (followsBy iotas bound) (stepsBy n vlr iotas) list (hasCome came) i (inv .on) h (may-same x ∙ may) (hasCome came′) (λ y m. new-bit (element y) (position y) (omega arith) ∙ ap (λ (b : Bool). b || hasCome came y) (alone y (mem→step y m)));
+            beyond = λ k e l z a b. new-bit e k b ∙ ap (λ (t : Bool). (bit iotas (position x) || eqb e (element x)) && eqb k (position x) || t) (inv .beyond k e l z a b) ∙ always ((bit iotas (position x) || eqb e (element x)) && eqb k (position x));
+            alike = λ k e l z g. new-bit e k g ∙ both-ways k e l z g (ℕ-discrete k (position x)) ∙ sym (new-bit 0 k (omega arith));
+          }
+            where
+              both-ways : (k e : ℕ) → k < n → bit iotas k ≡ true → e < 64 → Dec (k ≡ position (getD list i 0))
+                  → ((bit iotas (position (getD list i 0)) || eqb e (element (getD list i 0))) && eqb k (position (getD list i 0)) || bit (getD came e 0) k)
+                  ≡ ((bit iotas (position (getD list i 0)) || eqb 0 (element (getD list i 0))) && eqb k (position (getD list i 0)) || bit (getD came 0 0) k)
+              both-ways k e l z g (yes d) =
+                  let y : bit iotas (position (getD list i 0)) ≡ true = ap (bit iotas) (sym d) ∙ z in
+                  ap₂ (λ (u v : Bool). (u || eqb e (element (getD list i 0))) && v || bit (getD came e 0) k) y (eq-eqb k (position (getD list i 0)) d)
+                  ∙ sym (ap₂ (λ (u v : Bool). (u || eqb 0 (element (getD list i 0))) && v || bit (getD came 0 0) k) y (eq-eqb k (position (getD list i 0)) d))
+              both-ways k e l z g (no d) =
+                  aside (bit iotas (position (getD list i 0)) || eqb e (element (getD list i 0))) (bit (getD came e 0) k)
+                  ∙ inv .alike k e l z g
+                  ∙ sym (aside (bit iotas (position (getD list i 0)) || eqb 0 (element (getD list i 0))) (bit (getD came 0 0) k))
+                where
+                  aside : (a b : Bool) → (a && eqb k (position (getD list i 0)) || b) ≡ b
+                  aside a b = ap (λ (v : Bool). a && v || b) (ne-eqb k (position (getD list i 0)) d) ∙ ap (λ (v : Bool). v || b) (none a)
 
     -- ---- at the start nothing has come
     zeros : (l j : ℕ) → _≡_ {A = ℕ} (getD (replicate l 0) j 0) 0
@@ -415,33 +380,31 @@ module _ (n vlr iotas : ℕ) (few : n ≤ 16) (short : vlr ≤ 64) where
     zeros (suc l) zero = refl
     zeros (suc l) (suc j) = zeros l j
 
-    none-came : (y : ℕ) → hasCome (replicate 64 0) y ≡ false
-    none-came y = ap (λ (s : ℕ). bit s (position y)) (zeros 64 (element y)) ∙ bit-none (position y)
+    module _ (fits : iotas < 2 ^ 64) (list came : List ℕ) (starts : Started vlr iotas (replicate 64 0) came) where
+      low : (e k : ℕ) → e < vlr → bit (getD came e 0) k ≡ false
+      low e k h = ap (λ (v : ℕ). bit v k) (starts .low e h ∙ zeros 64 e) ∙ bit-none k
 
-    pub pass-starts : iotas < 2 ^ 64 → (list : List ℕ) (full : ℕ) → full ≡ fullAtStart vlr iotas → Marked n vlr iotas bound list (marks (replicate 64 0) (replicate 16 0) full) 0
-    pass-starts fits list full e = record {
-      came-long = refl;
-      gone-long = refl;
-      on = check-start (followsBy iotas bound) (stepsBy n vlr iotas) list (hasCome (replicate 64 0)) (λ y m. none-came y);
-      only = λ y c l. absurd (clash (sym c ∙ none-came y));
-      tallied = λ k l. zeros 16 k ∙ sym (tally-none (λ (j : ℕ). hasCome (replicate 64 0) (k * 64 + j)) (countBy vlr iotas k) (λ j g. none-came (k * 64 + j)));
-      fulls = λ k l. ap (λ (s : ℕ). bit s k) e ∙ empty k l (ℕ-discrete vlr 0) ∙ sym (ap (λ (v : ℕ). eqb v (countBy vlr iotas k)) (zeros 16 k));
-    }
-      where
-        some : (b : Bool) → eqb 0 (pick b 1 0) ≡ not b
-        some true = refl
-        some false = refl
+      high : (e k : ℕ) → k < n → vlr ≤ e → e < 64 → bit (getD came e 0) k ≡ not (bit iotas k)
+      high e k h l g = ap (λ (v : ℕ). bit v k) (starts .high e l g) ∙ bit-complement 64 iotas k fits (omega arith)
 
-        many : (b : Bool) → (vlr ≡ 0 → ⊥) → eqb 0 (pick b 1 vlr) ≡ false
-        many true z = refl
-        many false z = ne-eqb 0 vlr (λ w. z (sym w))
+      off : (e k : ℕ) → k < n → bit iotas k ≡ true → e < 64 → bit (getD came e 0) k ≡ false
+      off e k h z g = go (decLt e vlr)
+        where
+          go : Dec (e < vlr) → bit (getD came e 0) k ≡ false
+          go (yes l) = low e k l
+          go (no l) = high e k h (omega arith) g ∙ ap not z
 
-        empty : (k : ℕ) → k < n → Dec (vlr ≡ 0) → bit (fullAtStart vlr iotas) k ≡ eqb 0 (countBy vlr iotas k)
-        empty k l (yes z) =
-            ap (λ (b : Bool). bit (pick b (complement 64 iotas) 0) k) (eq-eqb vlr 0 z)
-            ∙ bit-complement 64 iotas k fits (omega arith)
-            ∙ sym (ap (λ (v : ℕ). eqb 0 (pick (bit iotas k) 1 v)) z ∙ some (bit iotas k))
-        empty k l (no z) =
-            ap (λ (b : Bool). bit (pick b (complement 64 iotas) 0) k) (ne-eqb vlr 0 z)
-            ∙ bit-none k
-            ∙ sym (many (bit iotas k) z)
+      none-came : (y : ℕ) → IsStep n vlr iotas y → hasCome came y ≡ false
+      none-came y s = go (bit iotas (position y)) refl
+        where
+          go : (b : Bool) → bit iotas (position y) ≡ b → hasCome came y ≡ false
+          go true z = off (element y) (position y) (s .at) z (omega arith)
+          go false z = low (element y) (position y) (subst (λ (b : Bool). element y < pick b 1 vlr) z (s .of))
+
+      pub pass-starts : Marked n vlr iotas bound list came 0
+      pass-starts = record {
+        long = starts .long;
+        on = check-start (followsBy iotas bound) (stepsBy n vlr iotas) list (hasCome came) (λ y m. none-came y (mem→step y m));
+        beyond = λ k e h z l g. high e k h l g ∙ ap not z;
+        alike = λ k e h z g. off e k h z g ∙ sym (off 0 k h z (omega arith));
+      }

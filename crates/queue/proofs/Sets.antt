@@ -7,7 +7,7 @@ use native.Mathlib.Omega.{arith}
 use native.Mathlib.Decide.{decLt, ℕ-discrete}
 use borrow.Author.Tests.{eq-eqb, ne-eqb, eqb-true, lt-ltb, le-ltb}
 use lib.Dec.{eqb, ltb}
-use lib.Bits.{bitOr, or-shr, or-mod}
+use lib.Bits.{bitAnd, bitOr, and-shr, and-mod, or-shr, or-mod}
 use lib.Pow.{shl-shr, pow-add, pow-lt, pow-pos}
 use Rattle.numbers.specs.Choice.{pick}
 use Rattle.numbers.specs.Bits.{bit, complement}
@@ -29,11 +29,23 @@ either d e h g =
     (by-digit (λ (y : ℕ). eqb (bitOr 1 y) 1 ≡ (eqb 1 1 || eqb y 1)) refl refl e g)
     d h
 
--- a bit of a union, of nothing, of one position
+both-digits : (d e : ℕ) → d < 2 → e < 2 → eqb (bitAnd d e) 1 ≡ (eqb d 1 && eqb e 1)
+both-digits d e h g =
+    by-digit (λ (x : ℕ). eqb (bitAnd x e) 1 ≡ (eqb x 1 && eqb e 1))
+    (by-digit (λ (y : ℕ). eqb (bitAnd 0 y) 1 ≡ (eqb 0 1 && eqb y 1)) refl refl e g)
+    (by-digit (λ (y : ℕ). eqb (bitAnd 1 y) 1 ≡ (eqb 1 1 && eqb y 1)) refl refl e g)
+    d h
+
+-- a bit of a union, of what two sets share, of nothing, of one position
 pub bit-or : (a b k : ℕ) → bit (bitOr a b) k ≡ (bit a k || bit b k)
 bit-or a b k =
     ap (λ (d : ℕ). eqb d 1) (ap (λ (n : ℕ). n % 2) (or-shr a b k) ∙ or-mod (a / 2 ^ k) (b / 2 ^ k) 1)
     ∙ either (digit a k) (digit b k) (digit-lt a k) (digit-lt b k)
+
+pub bit-and : (a b k : ℕ) → bit (bitAnd a b) k ≡ (bit a k && bit b k)
+bit-and a b k =
+    ap (λ (d : ℕ). eqb d 1) (ap (λ (n : ℕ). n % 2) (and-shr a b k) ∙ and-mod (a / 2 ^ k) (b / 2 ^ k) 1)
+    ∙ both-digits (digit a k) (digit b k) (digit-lt a k) (digit-lt b k)
 
 pub bit-none : (k : ℕ) → bit 0 k ≡ false
 bit-none k = ap (λ (n : ℕ). eqb (n % 2) 1) (zero-div (2 ^ k))
@@ -55,7 +67,7 @@ pow-low e k h =
     e-is : e ≡ suc (e - suc k) + k
     e-is = omega arith
 
-pub bit-above : (x n k : ℕ) → x < 2 ^ n → n ≤ k → bit x k ≡ false
+bit-above : (x n k : ℕ) → x < 2 ^ n → n ≤ k → bit x k ≡ false
 bit-above x n k small h = ap (λ (d : ℕ). eqb (d % 2) 1) (div-eq-of-lt (less (ℕ-discrete n k)))
   where
     less : Dec (n ≡ k) → x < 2 ^ k
@@ -132,14 +144,7 @@ pub built-at : (f : ℕ → Bool) (s k : ℕ) → Built f s k → (j : ℕ) → 
 unfolding Built
 built-at f s k b = b
 
-pub built-all : (f : ℕ → Bool) (s k n : ℕ) → Built f s k → k ≤ n → n ≤ k → (j : ℕ) → bit s j ≡ (ltb j n && f j)
-unfolding Built
-built-all f s k n b h g j = b j ∙ ap (λ (m : ℕ). ltb j m && f j) same
-  where
-    same : k ≡ n
-    same = omega arith
-
-pub built-more : (f : ℕ → Bool) (s k : ℕ) (t : Bool) → Built f s k → t ≡ f k → Built f (joinedIf t s k) (k + 1)
+built-more : (f : ℕ → Bool) (s k : ℕ) (t : Bool) → Built f s k → t ≡ f k → Built f (joinedIf t s k) (k + 1)
 unfolding Built
 built-more f s k t b e j = bit-joined-if t s k j ∙ ap (λ (u : Bool). t && eqb j k || u) (b j) ∙ go (decLt j k) (decLt k j)
   where
@@ -166,9 +171,6 @@ built-more f s k t b e j = bit-joined-if t s k j ∙ ap (λ (u : Bool). t && eqb
         ∙ here t
         ∙ e ∙ ap f (sym s)
         ∙ ap (λ (y : Bool). y && f j) (sym (lt-ltb j (k + 1) (omega arith)))
-
-pub built-turn : (f : ℕ → Bool) (s k r : ℕ) (t : Bool) → Built f s k → t ≡ f k → r ≡ joinedIf t s k → Built f r (k + 1)
-built-turn f s k r t b e g = subst (λ (m : ℕ). Built f m (k + 1)) (sym g) (built-more f s k t b e)
 
 -- a set that has grown by the same rule
 pub built-grown : (f : ℕ → Bool) (s r k : ℕ) (t : Bool) → Built f s k → t ≡ f k → ((j : ℕ) → bit r j ≡ (t && eqb j k || bit s j)) → Built f r (k + 1)

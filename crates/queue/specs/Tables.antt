@@ -1,11 +1,12 @@
 -- What the check of an order list computes with: numbers and sets of positions that are made once for a queue, and what has come of each position.
 -- A set of positions is a number whose bit k says that position k is in it. No public promise cites this; proofs/Verdicts.antt proves that it is the check of specs/Order.antt.
+use mathlib.Core.Path.{_≡_}
 use mathlib.Core.Bool.{Bool, true, false, not, _&&_, _||_}
 use mathlib.Core.List.{List}
-use Prim.Native.Nat.{ℕ, _+_, _*_, _^_, _<_}
+use Prim.Native.Nat.{ℕ, zero, suc, _-_, _*_, _^_, _<_, _≤_}
 use lib.Dec.{ltb, eqb}
-use lib.Bits.{bitOr}
-use lib.ListN.{getD, set}
+use lib.Bits.{bitAnd, bitOr}
+use lib.ListN.{length, getD, set}
 use Rattle.numbers.specs.Choice.{pick}
 use Rattle.numbers.specs.Bits.{bit, complement}
 use Rattle.state.specs.declared.Control.{Control}
@@ -112,40 +113,37 @@ followsBy iotas bound a x =
 unfoldable pub verdictBy : ℕ → ℕ → ℕ → List ℕ → List ℕ → Verdict
 verdictBy n vlr iotas bound list = check (followsBy iotas bound) (stepsBy n vlr iotas) list
 
--- ---- what has come
-pub record Marks : Type 0 where
-  -- for each element, the set of the positions whose step of that element has come
-  pub came : List ℕ
-  -- for each position, how many of its steps have come
-  pub gone : List ℕ
-  -- the positions of which every step has come
-  pub full : ℕ
-
-abbrev pub marks : List ℕ → List ℕ → ℕ → Marks
-marks came gone full = record { came = came; gone = gone; full = full }
-
--- the step x has come
+-- ---- what has come: for each element the set of the positions that hold no step of it up any more
 abbrev pub hasCome : List ℕ → ℕ → Bool
 hasCome came x = bit (getD came (element x) 0) (position x)
 
--- the positions that hold no step of x's element up any more: IOTA waits for every step of a position
-abbrev pub seenBy : ℕ → Marks → ℕ → ℕ
-seenBy iotas m x = pick (bit iotas (position x)) (m .full) (bitOr (getD (m .came) (element x) 0) (m .full))
+-- the positions that hold none of the first n elements up any more
+unfoldable pub everywhere : List ℕ → ℕ → ℕ
+everywhere came zero = 2 ^ 64 - 1
+everywhere came (suc n) = bitAnd (everywhere came n) (getD came n 0)
 
-unfoldable pub mayCome : ℕ → ℕ → ℕ → List ℕ → Marks → ℕ → Bool
-mayCome n vlr iotas bound m x =
-    isStepBy n vlr iotas x && (not (hasCome (m .came) x) && within (getD bound (position x) 0) (seenBy iotas m x))
+-- position p has not come, and each that it is bound to has
+abbrev pub ready : ℕ → ℕ → ℕ → Bool
+ready bound came p = not (bit came p) && within bound came
 
--- the step x comes
-unfoldable pub marked : ℕ → ℕ → ℕ → Marks → Marks
-marked vlr iotas x m =
-    marks (set (m .came) (element x) (joined (getD (m .came) (element x) 0) (position x)))
-    (set (m .gone) (position x) (getD (m .gone) (position x) 0 + 1))
-    (joinedIf (eqb (getD (m .gone) (position x) 0 + 1) (countBy vlr iotas (position x))) (m .full) (position x))
+-- x may come next: IOTA's one step waits for every element, any other for its own
+unfoldable pub mayCome : ℕ → ℕ → List ℕ → List ℕ → ℕ → Bool
+mayCome n iotas bound came x =
+    ltb (position x) n
+    && pick (bit iotas (position x))
+    (eqb (element x) 0 && ready (getD bound (position x) 0) (everywhere came 64) (position x))
+    (ready (getD bound (position x) 0) (getD came (element x) 0) (position x))
 
--- at the start the positions that have no steps are full
-abbrev pub fullAtStart : ℕ → ℕ → ℕ
-fullAtStart vlr iotas = pick (eqb vlr 0) (complement 64 iotas) 0
+-- the step x comes: that of an IOTA for every element
+pub record Came (iota : Bool) (x : ℕ) (came came′ : List ℕ) : Type 0 where
+  pub long : length came′ ≡ length came
+  pub sets : (e : ℕ) → e < 64 → getD came′ e 0 ≡ joinedIf (iota || eqb e (element x)) (getD came e 0) (position x)
+
+-- at the start only IOTAs hold the elements from VLR on up
+pub record Started (vlr iotas : ℕ) (came came′ : List ℕ) : Type 0 where
+  pub long : length came′ ≡ length came
+  pub low : (e : ℕ) → e < vlr → getD came′ e 0 ≡ getD came e 0
+  pub high : (e : ℕ) → vlr ≤ e → e < 64 → getD came′ e 0 ≡ complement 64 iotas
 
 -- ---- what a step of a decoded queue does
 unfoldable pub actBy : List Instruction → List ℕ → ℕ → Run → Run

@@ -2,22 +2,13 @@
 use crate::Verdict;
 use numbers::bits;
 ghost use mathlib.Core.Path.{_≡_};
-ghost use mathlib.Core.Bool.{true};
+ghost use mathlib.Core.Bool.{true, false, _&&_};
 ghost use Prim.Native.Nat.{ℕ, _≤_, _<_};
-ghost use lib.ListN.{getD};
-ghost use Rattle.numbers.specs.Choice.{pick};
+ghost use lib.Dec.{eqb};
+ghost use lib.ListN.{length, getD};
 ghost use Rattle.numbers.specs.Bits.{bit};
-ghost use lib.Bits.{bitOr};
-ghost use Rattle.queue.specs.Touch.{position};
-ghost use Rattle.queue.specs.Tables.{joinedIf, within as withinOf, countBy, isStepBy, mayCome, marks, marked, fullAtStart, verdictBy};
-
-// Position k joins the set where the test says so.
-fn join(test: bool, set: u64, k: usize) -> u64
-    requires { ⌜ k < 64 ⌝ }
-    ensures { λ r. ⌜ r ≡ joinedIf test set k ⌝ }
-{
-    if test { set | (1 << k) } else { set }
-}
+ghost use Rattle.queue.specs.Touch.{position, element};
+ghost use Rattle.queue.specs.Tables.{joined, within as withinOf, everywhere as everywhereOf, ready as readyOf, mayCome, Came, Started, verdictBy};
 
 // Every position of the first set is in the second.
 fn within(a: u64, b: u64) -> bool
@@ -26,81 +17,95 @@ fn within(a: u64, b: u64) -> bool
     (a | b) == b
 }
 
-// How many steps a position has.
-fn count(vlr: u64, iotas: u64, p: usize) -> u64
-    requires { ⌜ p < 64 ⌝ }
-    ensures { λ r. ⌜ r ≡ countBy vlr iotas p ⌝ }
+// At the start nothing has come, and only IOTAs hold the elements from VLR on up.
+fn start(came: &mut [u64; 64], vlr: u64, iotas: u64)
+    requires { ⌜ (length (now came) ≡ 64) × (vlr ≤ 64) ⌝ }
+    ensures { λ r. ⌜ Started vlr iotas (now (came .entry)) (now (came .exit)) ⌝ }
 {
-    if bits::bit(iotas, p) { 1 } else { vlr }
+    let mut e = vlr as usize;
+    while e < 64 {
+        came[e] = !iotas;
+        e += 1;
+    }
 }
 
-fn is_step(n: usize, vlr: u64, iotas: u64, x: u64) -> bool
-    requires { ⌜ n ≤ 16 ⌝ }
-    ensures { λ r. ⌜ r ≡ isStepBy n vlr iotas x ⌝ }
+// The positions that hold no element up any more.
+fn everywhere(came: &[u64; 64]) -> u64
+    ensures { λ r. ⌜ r ≡ everywhereOf (now (came .entry)) 64 ⌝ }
+{
+    let mut all: u64 = 18446744073709551615;
+    let mut e: usize = 0;
+    while e < 64 {
+        all = all & came[e];
+        e += 1;
+    }
+    all
+}
+
+// Position p holds no element up any more.
+fn release(came: &mut [u64; 64], p: usize)
+    requires { ⌜ (length (now came) ≡ 64) × (p < 64) ⌝ }
+    ensures { λ r. ⌜ (length (now (came .exit)) ≡ 64) × ((e : ℕ) → e < 64 → getD (now (came .exit)) e 0 ≡ joined (getD (now (came .entry)) e 0) p) ⌝ }
+{
+    let mut e: usize = 0;
+    while e < 64 {
+        came[e] = came[e] | (1 << p);
+        e += 1;
+    }
+}
+
+// Position p has not come, and each that it is bound to has.
+fn ready(bound: u64, came: u64, p: usize) -> bool
+    requires { ⌜ p < 64 ⌝ }
+    ensures { λ r. ⌜ r ≡ readyOf bound came p ⌝ }
+{
+    !bits::bit(came, p) & within(bound, came)
+}
+
+// The IOTA at position p comes, if it may.
+fn iota_comes(came: &mut [u64; 64], bound: u64, x: u64) -> bool
+    requires { ⌜ (length (now came) ≡ 64) × (position x < 16) ⌝ }
+    ensures { λ r. ⌜ (r ≡ (eqb (element x) 0 && readyOf bound (everywhereOf (now (came .entry)) 64) (position x))) × (r ≡ true → Came true x (now (came .entry)) (now (came .exit))) ⌝ }
 {
     let p = (x / 64) as usize;
-    if p < n {
-        x % 64 < count(vlr, iotas, p)
-    } else {
-        false
-    }
-}
-
-// The positions that hold no step of x's element up any more.
-fn seen(iotas: u64, came: u64, full: u64, p: usize) -> u64
-    requires { ⌜ p < 64 ⌝ }
-    ensures { λ r. ⌜ r ≡ pick (bit iotas p) full (bitOr came full) ⌝ }
-{
-    if bits::bit(iotas, p) {
-        full
-    } else {
-        came | full
-    }
-}
-
-// x may come next: it is a step, has not come yet, and no position that it is bound to holds it up.
-fn may_come(
-    n: usize,
-    vlr: u64,
-    iotas: u64,
-    bound: &[u64; 16],
-    came: &[u64; 64],
-    gone: &[u64; 16],
-    full: u64,
-    x: u64,
-) -> bool
-    requires { ⌜ n ≤ 16 ⌝ }
-    ensures { λ r. ⌜ r ≡ mayCome n vlr iotas (now (bound .entry)) (marks (now (came .entry)) (now (gone .entry)) full) x ⌝ }
-{
-    if !is_step(n, vlr, iotas, x) {
+    if x % 64 != 0 {
         return false;
     }
+    if !ready(bound, everywhere(&*came), p) {
+        return false;
+    }
+    release(&mut *came, p);
+    true
+}
+
+// Any other step comes, if it may.
+fn step_comes(came: &mut [u64; 64], bound: u64, x: u64) -> bool
+    requires { ⌜ (length (now came) ≡ 64) × (position x < 16) ⌝ }
+    ensures { λ r. ⌜ (r ≡ readyOf bound (getD (now (came .entry)) (element x) 0) (position x)) × (r ≡ true → Came false x (now (came .entry)) (now (came .exit))) ⌝ }
+{
     let p = (x / 64) as usize;
-    let there = came[(x % 64) as usize];
-    if bits::bit(there, p) {
-        return false;
-    }
-    within(bound[p], seen(iotas, there, full, p))
-}
-
-// The step x comes. The positions of which every step has come.
-fn mark(vlr: u64, iotas: u64, came: &mut [u64; 64], gone: &mut [u64; 16], full: u64, x: u64) -> u64
-    requires { ⌜ (x < 1024) × (getD (now gone) (position x) 0 ≤ 64) ⌝ }
-    ensures { λ r. ⌜ marks (now (came .exit)) (now (gone .exit)) r ≡ marked vlr iotas x (marks (now (came .entry)) (now (gone .entry)) full) ⌝ }
-{
     let e = (x % 64) as usize;
-    let p = (x / 64) as usize;
-    came[e] = came[e] | (1 << p);
-    let steps = gone[p] + 1;
-    gone[p] = steps;
-    join(steps == count(vlr, iotas, p), full, p)
+    let there = came[e];
+    if !ready(bound, there, p) {
+        return false;
+    }
+    came[e] = there | (1 << p);
+    true
 }
 
-// At the start the positions that have no steps are full.
-fn full_at_start(vlr: u64, iotas: u64) -> u64
-    ensures { λ r. ⌜ r ≡ fullAtStart vlr iotas ⌝ }
+// The entry x comes, if it may.
+fn comes(came: &mut [u64; 64], n: usize, iotas: u64, bound: &[u64; 16], x: u64) -> bool
+    requires { ⌜ (length (now came) ≡ 64) × (n ≤ 16) ⌝ }
+    ensures { λ r. ⌜ (r ≡ mayCome n iotas (now (bound .entry)) (now (came .entry)) x) × (r ≡ true → Came (bit iotas (position x)) x (now (came .entry)) (now (came .exit))) ⌝ }
 {
-    if vlr == 0 { !iotas } else { 0 }
+    let p = (x / 64) as usize;
+    if p >= n {
+        return false;
+    }
+    if bits::bit(iotas, p) {
+        return iota_comes(&mut *came, bound[p], x);
+    }
+    step_comes(&mut *came, bound[p], x)
 }
 
 // The pass over the list. It never reads past the first bad entry.
@@ -110,18 +115,16 @@ pub fn check(n: usize, vlr: u64, iotas: u64, bound: &[u64; 16], list: &[u64]) ->
     ensures { λ r. ⌜ r ≡ verdictBy n vlr iotas (now (bound .entry)) (now (list .entry)) ⌝ }
 {
     let mut came = [0u64; 64];
-    let mut gone = [0u64; 16];
-    let mut full = full_at_start(vlr, iotas);
+    start(&mut came, vlr, iotas);
     let mut i: usize = 0;
     while i < list.len() {
         let x = list[i];
-        if !may_come(n, vlr, iotas, bound, &came, &gone, full, x) {
+        if !comes(&mut came, n, iotas, bound, x) {
             return Verdict::Refused(i as u64);
         }
-        full = mark(vlr, iotas, &mut came, &mut gone, full, x);
         i += 1;
     }
-    if within((1 << n) - 1, full) {
+    if within((1 << n) - 1, everywhere(&came)) {
         Verdict::Permitted
     } else {
         Verdict::Refused(i as u64)

@@ -1,0 +1,49 @@
+-- `start` meets its contract: the loop writes the sets of the elements from VLR on. Assumes nothing.
+use mathlib.Core.Path.{refl}
+use Prim.Native.Nat.{ℕ, _≤_, _-_}
+use borrow.Author.Needs.{needs}
+use Rattle.numbers.specs.Bits.{complement}
+use Rattle.queue.proofs.Sweeping.{Swept, swept-none, swept-more, starts}
+use Rattle.queue.proofs.order.start.Statement.{statement}
+use Rattle.queue.proofs.order.start.Tie as tie
+
+abbrev Inv-loop : tie.InvT-loop
+Inv-loop came₀ vlr iotas e₀ came e = (e ≤ 64) × Swept came₀ vlr (λ (j : ℕ). complement 64 iotas) came e
+
+abbrev μ-loop : tie.MeasureT-loop
+μ-loop came₀ vlr iotas e₀ came e = 64 - e
+
+loop-holds : tie.Need-loop-holds Inv-loop μ-loop
+loop-holds c = (search needs, swept-none _ _ _)
+
+mul-came : tie.Need-mul-came Inv-loop μ-loop
+mul-came c = search needs
+
+element-write-came : tie.Need-element-write-came Inv-loop μ-loop
+element-write-came c = search needs
+
+add-e : tie.Need-add-e Inv-loop μ-loop
+add-e c = search needs
+
+loop-less : tie.Need-loop-less Inv-loop μ-loop
+loop-less c = search needs
+
+loop-again : tie.Need-loop-again Inv-loop μ-loop
+loop-again c = (search needs, swept-more _ _ _ _ _ _ (c .before .loop .inv .1) (search needs) refl)
+
+returns : tie.Need-returns Inv-loop μ-loop
+returns c = starts _ _ _ _ _ (c .before .loop .inv .1) (c .loop-test .left)
+
+pub start-spec : {M : Type 1} → statement M
+start-spec =
+    tie.close
+    (tie.spec
+    Inv-loop
+    μ-loop
+    loop-holds
+    mul-came
+    element-write-came
+    add-e
+    loop-less
+    loop-again
+    returns)
