@@ -128,3 +128,12 @@ not-compare LoadLongword e = ((λ q. omega arith), λ q. omega arith)
 not-compare LoadQuadword e = ((λ q. omega arith), λ q. omega arith)
 not-compare StoreLongword e = ((λ q. omega arith), λ q. omega arith)
 not-compare StoreQuadword e = ((λ q. omega arith), λ q. omega arith)
+
+-- both sides of a test of two that failed
+pub neither-left : (a b : Bool) → (a || b) ≡ false → a ≡ false
+neither-left true b e = e
+neither-left false b e = refl
+
+pub neither-right : (a b : Bool) → (a || b) ≡ false → b ≡ false
+neither-right true b e = absurd (true-not-false (sym e))
+neither-right false b e = e

@@ -104,10 +104,7 @@ fn part(
     ensures { λ r. ⌜ ((p : Progress) → p .control .vlr ≡ vlr → p .control .vmr ≡ vmr → p .control .vcr ≡ vcr → runOf (now (elements .exit)) (effectedOf r p) ≡ doneFor which instruction scalar (runOf (now (elements .entry)) p)) ⌝ }
 {
     let work = instruction.work;
-    if crate::is_compare(work) {
-        return mask::over(&*elements, instruction, scalar, which, i, i + 1, vmr, vcr);
-    }
-    if crate::is_iota(work) {
+    if crate::is_compare(work) | crate::is_iota(work) {
         return effect(
             elements,
             instruction,

@@ -1,23 +1,13 @@
 use mathlib.Core.Path.{sym, ap, _∙_}
 use Rattle.machine.specs.declared.Effect.{Effect}
-use Rattle.machine.specs.Kind.{kindOf}
 use Rattle.machine.proofs.Values.{valued}
+use Rattle.machine.proofs.WorkKinds.{neither-left, neither-right}
 use borrow.Author.Needs.{needs}
 use Rattle.machine.proofs.instruction.part.Statement.{statement}
 use Rattle.machine.proofs.instruction.part.Tie as tie
 
 is-compare-requires : tie.Need-is-compare-requires
 is-compare-requires c κs = search needs
-
-add-over : tie.Need-add-over
-add-over c = search needs
-
-over-requires : tie.Need-over-requires
-unfolding kindOf
-over-requires c κs = ((search needs, search needs, search needs, search needs, search needs, search needs), c .before .before .before .pre .1)
-
-returns : tie.Need-returns
-returns c = λ p e f g. c .over .ensures p f g
 
 is-iota-requires : tie.Need-is-iota-requires
 is-iota-requires c κs = search needs
@@ -28,22 +18,21 @@ add-effect c = search needs
 effect-requires : tie.Need-effect-requires
 effect-requires c κs = search needs
 
-returns-2 : tie.Need-returns-2
-returns-2 c = search needs
+returns : tie.Need-returns
+returns c = search needs
 
 matched-requires : tie.Need-matched-requires
 matched-requires c κs = search needs
 
 some-requires : tie.Need-some-requires
-unfolding kindOf
-some-requires c κs = (search needs, search needs, search needs, search needs)
+some-requires c κs = (search needs, search needs, search needs, sym (c .before .before .before .before .is-compare .ensures) ∙ neither-left _ _ (c .before .before .if1 .left))
 
 noted-requires : tie.Need-noted-requires
 noted-requires c κs = search needs
 
-returns-3 : tie.Need-returns-3
-returns-3 c = λ p e f g.
-    valued (c .before .before .before .before .before .before .before .before .args .instruction) (c .before .before .before .before .before .before .before .before .args .scalar) (c .before .before .before .before .before .before .before .before .args .which) _ p (rw f (search needs)) (sym (c .before .before .before .before .before .before .before .is-compare .ensures) ∙ c .before .before .before .before .before .before .if1 .left) (sym (c .before .before .before .before .before .is-iota .ensures) ∙ c .before .before .before .before .if2 .left) _ (c .before .some .result) (c .noted .result)
+returns-2 : tie.Need-returns-2
+returns-2 c = λ p e f g.
+    valued (c .before .before .before .before .before .before .before .args .instruction) (c .before .before .before .before .before .before .before .args .scalar) (c .before .before .before .before .before .before .before .args .which) _ p (rw f (search needs)) (sym (c .before .before .before .before .before .before .is-compare .ensures) ∙ neither-left _ _ (c .before .before .before .before .if1 .left)) (sym (c .before .before .before .before .before .is-iota .ensures) ∙ neither-right (c .before .before .before .before .before .before .is-compare .result) _ (c .before .before .before .before .if1 .left)) _ (c .before .some .result) (c .noted .result)
     (rw (f, ← (c .before .before .matched .ensures)) (c .before .some .ensures))
     (ap (λ (d : Effect). d .vmr) (c .noted .ensures) ∙ sym f)
     (ap (λ (d : Effect). d .vcr) (c .noted .ensures) ∙ sym g)
@@ -54,14 +43,11 @@ part-spec =
     tie.close
     (tie.spec
     is-compare-requires
-    add-over
-    over-requires
-    returns
     is-iota-requires
     add-effect
     effect-requires
-    returns-2
+    returns
     matched-requires
     some-requires
     noted-requires
-    returns-3)
+    returns-2)
