@@ -81,7 +81,7 @@ fn room(bytes: u64, quadword: bool) -> u32
     (larger(bytes + 1, size) - size) as u32
 }
 
-// An element is fine, by tests of 32 bits and no branch, several of which the machine does at once.
+// An element is fine: by tests of 32 bits and no branch, so that the machine does several at once.
 fn fine(address: u32, quadword: bool, origin: u64, bytes: u64) -> bool
     requires { ⌜ origin + bytes ≤ 2 ^ 32 ⌝ }
     ensures { λ r. ⌜ (r ≡ true → testOf (sizeOf quadword) origin (origin + bytes) address ≡ Fine) ⌝ }
@@ -104,7 +104,7 @@ fn all_fine(addresses: &[u32; 64], quadword: bool, origin: u64, bytes: u64, n: u
     all
 }
 
-// The lowest bad element of a set of numbers below n. That there is none is told fast as a rule; else each is looked at.
+// The lowest bad element of a set of numbers below n. As a rule all are fine, which is told fast; else each of the set is looked at.
 pub(crate) fn tested(
     addresses: &[u32; 64],
     which: u64,
