@@ -39,15 +39,8 @@ pub fn of_words(exc: bool, a: u32, b: u32) -> Answer
     ensures { λ r. ⌜ r ≡ answered exc (product F a b) ⌝ }
 {
     let ea = word::exponent_of(a);
-    if ea == 0 {
-        let r = multiply_rare(a, b);
-        return Answer {
-            value: r.value,
-            types: r.types,
-        };
-    }
     let eb = word::exponent_of(b);
-    if eb == 0 {
+    if (ea == 0) | (eb == 0) {
         let r = multiply_rare(a, b);
         return Answer {
             value: r.value,

@@ -1,6 +1,7 @@
 -- `floating::product::of_words` meets its contract. Assumes nothing.
 use mathlib.Core.Path.{ap, _∙_}
 use Rattle.floating.specs.Operations.{answered}
+use Rattle.floating.proofs.Refusing.{none-zero, some-zero}
 use Rattle.floating.proofs.Products.{product-settled}
 use borrow.Author.Needs.{needs}
 use Rattle.floating.proofs.product.of_words.Statement.{statement}
@@ -9,20 +10,14 @@ use Rattle.floating.proofs.product.of_words.Tie as tie
 exponent-of-requires : tie.Need-exponent-of-requires
 exponent-of-requires c κs = search needs
 
-multiply-rare-requires : tie.Need-multiply-rare-requires
-multiply-rare-requires c κs = search needs
-
-returns : tie.Need-returns
-returns c = c .multiply-rare .ensures (c .before .before .before .args .exc)
-
 exponent-of-requires-2 : tie.Need-exponent-of-requires-2
 exponent-of-requires-2 c κs = search needs
 
-multiply-rare-requires-2 : tie.Need-multiply-rare-requires-2
-multiply-rare-requires-2 c κs = search needs
+multiply-rare-requires : tie.Need-multiply-rare-requires
+multiply-rare-requires c κs = search (some-zero, needs)
 
-returns-2 : tie.Need-returns-2
-returns-2 c = c .multiply-rare2 .ensures (c .before .before .before .before .before .args .exc)
+returns : tie.Need-returns
+returns c = c .multiply-rare .ensures (c .before .before .before .before .args .exc)
 
 sign-of-product-requires : tie.Need-sign-of-product-requires
 sign-of-product-requires c κs = search needs
@@ -54,30 +49,27 @@ near-of-requires c κs = search needs
 deliver-requires : tie.Need-deliver-requires
 deliver-requires c κs = search needs
 
-returns-3 : tie.Need-returns-3
-returns-3 c =
+returns-2 : tie.Need-returns-2
+returns-2 c =
     let m = c .before .near-of in
     let y = c .before .before .raised in
     let z = c .before .before .before .zeros-of in
     let p = c .before .before .before .before in
     let d = p .before .before .before .before in
-    let g = d .before .exponent-of2 in
-    let e = d .before .before .before .exponent-of in
-    let a = d .before .before .before .before .args in
+    let a = d .before .before .before .args in
+    let n = none-zero _ _ _ _ (d .before .before .exponent-of .ensures) (d .before .exponent-of2 .ensures) (d .if1 .left) in
     c .deliver .ensures
     ∙ ap (answered (a .exc))
-    (product-settled (a .a) (a .b) _ _ _ _ _ _ _ _ _ (p .before .before .before .sign-of-product .ensures .0) (e .ensures) (g .ensures) (λ v. d .before .before .if1 .left (e .ensures ∙ v)) (λ v. d .if2 .left (g .ensures ∙ v)) (p .before .before .significand-of .ensures) (p .before .significand-of2 .ensures) (p .whole-product .ensures .0) (z .ensures .1) (z .ensures .2) (y .ensures) (m .ensures .0))
+    (product-settled (a .a) (a .b) _ _ _ _ _ _ _ _ _ (p .before .before .before .sign-of-product .ensures .0) (d .before .before .exponent-of .ensures) (d .before .exponent-of2 .ensures) (n .0) (n .1) (p .before .before .significand-of .ensures) (p .before .significand-of2 .ensures) (p .whole-product .ensures .0) (z .ensures .1) (z .ensures .2) (y .ensures) (m .ensures .0))
 
 pub of-words-spec : {M : Type 1} → statement M
 of-words-spec =
     tie.close
     (tie.spec
     exponent-of-requires
+    exponent-of-requires-2
     multiply-rare-requires
     returns
-    exponent-of-requires-2
-    multiply-rare-requires-2
-    returns-2
     sign-of-product-requires
     significand-of-requires
     significand-of-requires-2
@@ -88,4 +80,4 @@ of-words-spec =
     raised-requires
     near-of-requires
     deliver-requires
-    returns-3)
+    returns-2)
