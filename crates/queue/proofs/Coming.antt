@@ -1,12 +1,12 @@
 -- An entry of an order list comes or is refused, as the code does it. Assumes nothing.
-use mathlib.Core.Path.{_≡_, refl, sym, ap, ap₂, subst, _∙_}
-use mathlib.Core.Bool.{Bool, true, false, not, _&&_, _||_}
+use mathlib.Core.Path.{_≡_, sym, ap, ap₂, subst, _∙_}
+use mathlib.Core.Bool.{Bool, true, false, _&&_}
 use mathlib.Core.List.{List}
 use Prim.Native.Nat.{ℕ, _*_, _%_, _^_, _<_, _≤_}
 use native.Mathlib.Omega.{arith}
 use native.Mathlib.Decide.{ℕ-discrete}
 use borrow.Author.Tests.{eq-eqb, ne-eqb, lt-ltb, le-ltb}
-use lib.Dec.{T, eqb, ltb}
+use lib.Dec.{T, eqb}
 use lib.Bits.{bitOr}
 use lib.ListN.{length, getD, set, length-set}
 use lib.Seq.{getD-set-same, getD-set-other}
@@ -43,31 +43,22 @@ iota-came came came′ x long r = record { long = r .0 ∙ sym long; sets = r .1
 
 -- ---- the test
 module _ (n iotas : ℕ) (bound came : List ℕ) (x : ℕ) where
+  abbrev by-kind : Bool → Bool
+  by-kind b = pick b (eqb (element x) 0 && ready (getD bound (position x) 0) (everywhere came 64) (position x)) (ready (getD bound (position x) 0) (getD came (element x) 0) (position x))
+
   pub may-not : n ≤ position x → mayCome n iotas bound came x ≡ false
   unfolding mayCome
-  may-not h = ap (λ (t : Bool). t && pick (bit iotas (position x)) (eqb (element x) 0 && ready (getD bound (position x) 0) (everywhere came 64) (position x)) (ready (getD bound (position x) 0) (getD came (element x) 0) (position x))) (le-ltb (position x) n h)
+  may-not h = ap (λ (t : Bool). t && by-kind (bit iotas (position x))) (le-ltb (position x) n h)
 
-  module _ (came′ : List ℕ) (h : position x < n) (i : Bool) (is : i ≡ bit iotas (position x)) (r : Bool) where
-    within-n : pick i (eqb (element x) 0 && ready (getD bound (position x) 0) (everywhere came 64) (position x)) (ready (getD bound (position x) 0) (getD came (element x) 0) (position x)) ≡ mayCome n iotas bound came x
-    unfolding mayCome
-    within-n =
-        ap₂ (λ (t u : Bool). t && pick u (eqb (element x) 0 && ready (getD bound (position x) 0) (everywhere came 64) (position x)) (ready (getD bound (position x) 0) (getD came (element x) 0) (position x))) (sym (lt-ltb (position x) n h)) is
-
-    pub may-iota : i ≡ true
-        → (r ≡ (eqb (element x) 0 && ready (getD bound (position x) 0) (everywhere came 64) (position x))) × (r ≡ true → Came true x came came′)
-        → (r ≡ mayCome n iotas bound came x) × (r ≡ true → Came (bit iotas (position x)) x came came′)
-    may-iota e g = (
-      g .0 ∙ sym (ap (λ (b : Bool). pick b (eqb (element x) 0 && ready (getD bound (position x) 0) (everywhere came 64) (position x)) (ready (getD bound (position x) 0) (getD came (element x) 0) (position x))) e) ∙ within-n,
-      λ f. subst (λ (b : Bool). Came b x came came′) (sym e ∙ is) (g .1 f),
-    )
-
-    pub may-step : i ≡ false
-        → (r ≡ ready (getD bound (position x) 0) (getD came (element x) 0) (position x)) × (r ≡ true → Came false x came came′)
-        → (r ≡ mayCome n iotas bound came x) × (r ≡ true → Came (bit iotas (position x)) x came came′)
-    may-step e g = (
-      g .0 ∙ sym (ap (λ (b : Bool). pick b (eqb (element x) 0 && ready (getD bound (position x) 0) (everywhere came 64) (position x)) (ready (getD bound (position x) 0) (getD came (element x) 0) (position x))) e) ∙ within-n,
-      λ f. subst (λ (b : Bool). Came b x came came′) (sym e ∙ is) (g .1 f),
-    )
+  pub may-by : (came′ : List ℕ) → position x < n → (i b r : Bool) → i ≡ bit iotas (position x) → i ≡ b
+      → (r ≡ by-kind b) × (r ≡ true → Came b x came came′)
+      → (r ≡ mayCome n iotas bound came x) × (r ≡ true → Came (bit iotas (position x)) x came came′)
+  unfolding mayCome
+  may-by came′ h i b r is e g =
+      let same : b ≡ bit iotas (position x) = sym e ∙ is in (
+        g .0 ∙ ap₂ (λ (t u : Bool). t && by-kind u) (sym (lt-ltb (position x) n h)) same,
+        λ f. subst (λ (k : Bool). Came k x came came′) same (g .1 f),
+      )
 
 -- IOTA's test
 pub iota-not : (e : ℕ) (t : Bool) → (e ≡ 0 → ⊥) → (eqb e 0 && t) ≡ false

@@ -1,9 +1,8 @@
 -- The pass over an order list with sets of positions: what the sets say, and that the code's tests are the check's. Assumes nothing.
 use mathlib.Core.Path.{_≡_, refl, sym, ap, ap₂, _∙_, subst}
-use mathlib.Core.Logic.{_⊎_, inl, inr}
 use mathlib.Core.Bool.{Bool, true, false, not, _&&_, _||_}
 use mathlib.Core.List.{List}
-use Prim.Native.Nat.{ℕ, zero, suc, _+_, _-_, _*_, _/_, _%_, _^_, _<_, _≤_, zero-le}
+use Prim.Native.Nat.{ℕ, zero, suc, _+_, _-_, _*_, _%_, _^_, _<_, _≤_, zero-le}
 use native.Mathlib.Omega.{arith}
 use native.Mathlib.Numerals.{add-one}
 use native.Mathlib.Decide.{ℕ-discrete, decLt}
@@ -12,17 +11,18 @@ use lib.Dec.{T, eqb, ltb}
 use lib.Bits.{bitAnd}
 use lib.ListN.{length, getD, replicate}
 use Rattle.numbers.specs.Choice.{pick}
-use Rattle.numbers.specs.Bits.{bit, complement}
+use Rattle.numbers.specs.Bits.{bit}
 use lib.Pow.{pow-pos}
 use Rattle.numbers.proofs.BitLaws.{one-shifted}
 use Rattle.queue.specs.declared.Verdict.the-variants.{Permitted, Refused}
 use Rattle.queue.specs.Order.{Mem, has, each, check}
 use Rattle.queue.specs.Touch.{position, element}
-use Rattle.queue.specs.Tables.{joinedIf, within, countBy, isStepBy, stepsBy, followsBy, verdictBy, hasCome, everywhere, ready, mayCome, Came, Started}
-use Rattle.queue.proofs.Tests.{T-true, each→, →each, has→mem, mem→has}
+use Rattle.queue.specs.Tables.{within, countBy, isStepBy, stepsBy, followsBy, verdictBy, hasCome, everywhere, ready, mayCome, Came, Started}
+use Rattle.queue.proofs.Tests.{and-none, or-always, T-true, each→, →each, has→mem, mem→has}
 use Rattle.queue.proofs.Places.{same-bool, true-T}
 use Rattle.queue.proofs.Steps.{passing→, →passing}
 use Rattle.queue.proofs.Accepting.{both}
+use Rattle.queue.proofs.Filling.{zeros}
 use Rattle.queue.proofs.Sets.{bit-and, bit-none, bit-joined-if, bit-below, bit-complement, within→, →within}
 use Rattle.queue.proofs.CheckLoop.{CheckInv, mayBy, check-start, check-stop, check-on, check-end}
 
@@ -31,8 +31,8 @@ pub ones-fit : (n : ℕ) → n ≤ 16 → 1 ≤ 1 * 2 ^ n % 18446744073709551616
 ones-fit n h = rw (one-shifted n 64 (omega arith)) (pow-pos n)
 
 -- ---- tests
-not-both : (a b : Bool) → a ≡ true → b ≡ true → a && b ≡ true
-not-both a b e f = ap₂ (λ (x y : Bool). x && y) e f
+both-true : (a b : Bool) → a ≡ true → b ≡ true → a && b ≡ true
+both-true a b e f = ap₂ (λ (x y : Bool). x && y) e f
 
 clash : true ≡ false → ⊥
 clash e = subst T e tt
@@ -46,9 +46,6 @@ implies true b t e = true-T b t
 implies false b t e = absurd (clash (sym e))
 
 -- ---- a step, and its position and element
-whole-step : (x : ℕ) → position x * 64 + element x ≡ x
-whole-step x = omega arith
-
 position-at : (k e : ℕ) → e < 64 → position (k * 64 + e) ≡ k
 position-at k e h = omega arith
 
@@ -59,7 +56,7 @@ come-at : (came : List ℕ) (k e : ℕ) → e < 64 → hasCome came (k * 64 + e)
 come-at came k e h = ap₂ (λ (i j : ℕ). bit (getD came i 0) j) (element-at k e h) (position-at k e h)
 
 -- ---- the positions that hold no element up
-pub everywhere→ : (came : List ℕ) (n k : ℕ) → bit (everywhere came n) k ≡ true → (e : ℕ) → e < n → bit (getD came e 0) k ≡ true
+everywhere→ : (came : List ℕ) (n k : ℕ) → bit (everywhere came n) k ≡ true → (e : ℕ) → e < n → bit (getD came e 0) k ≡ true
 unfolding everywhere
 everywhere→ came zero k f e h = absurd (none h)
   where
@@ -73,12 +70,12 @@ everywhere→ came (suc n) k f e h =
     go (yes z) v r = ap (λ (j : ℕ). bit (getD came j 0) k) z ∙ v
     go (no z) v r = r (omega arith)
 
-pub →everywhere : (came : List ℕ) (n k : ℕ) → k < 64 → ((e : ℕ) → e < n → bit (getD came e 0) k ≡ true) → bit (everywhere came n) k ≡ true
+→everywhere : (came : List ℕ) (n k : ℕ) → k < 64 → ((e : ℕ) → e < n → bit (getD came e 0) k ≡ true) → bit (everywhere came n) k ≡ true
 unfolding everywhere
 →everywhere came zero k h f = bit-below 64 k ∙ lt-ltb k 64 h
 →everywhere came (suc n) k h f =
     bit-and (everywhere came n) (getD came n 0) k
-    ∙ not-both _ _ (→everywhere came n k h (λ e g. f e (omega arith))) (f n (omega arith))
+    ∙ both-true _ _ (→everywhere came n k h (λ e g. f e (omega arith))) (f n (omega arith))
 
 -- one element more
 pub everywhere-more : (came : List ℕ) (e all : ℕ) → all ≡ everywhere came e → bitAnd all (getD came e 0) ≡ everywhere came (e + 1)
@@ -108,18 +105,15 @@ module _ (n vlr iotas : ℕ) (few : n ≤ 16) (short : vlr ≤ 64) where
       go false = short
 
   -- ---- the steps
-  pub step→ : (x : ℕ) → isStepBy n vlr iotas x ≡ true → IsStep n vlr iotas x
+  step→ : (x : ℕ) → isStepBy n vlr iotas x ≡ true → IsStep n vlr iotas x
   unfolding isStepBy
   step→ x e =
       let u = both (ltb (position x) n) (ltb (element x) (countBy vlr iotas (position x))) e in
       record { at = ltb-true (position x) n (u .0); of = ltb-true (element x) (countBy vlr iotas (position x)) (u .1) }
 
-  pub →step : (x : ℕ) → IsStep n vlr iotas x → isStepBy n vlr iotas x ≡ true
+  →step : (x : ℕ) → IsStep n vlr iotas x → isStepBy n vlr iotas x ≡ true
   unfolding isStepBy
-  →step x s = not-both (ltb (position x) n) _ (lt-ltb (position x) n (s .at)) (lt-ltb (element x) (countBy vlr iotas (position x)) (s .of))
-
-  pub step-lt : (x : ℕ) → IsStep n vlr iotas x → x < 1024
-  step-lt x s = let h = s .at in omega arith
+  →step x s = both-true (ltb (position x) n) _ (lt-ltb (position x) n (s .at)) (lt-ltb (element x) (countBy vlr iotas (position x)) (s .of))
 
   mem→step : (x : ℕ) → Mem x (stepsBy n vlr iotas) → IsStep n vlr iotas x
   unfolding stepsBy
@@ -176,7 +170,7 @@ module _ (n vlr iotas : ℕ) (few : n ≤ 16) (short : vlr ≤ 64) where
         unfolding followsBy
         follows-at k e h f g =
             ap₂ (λ (p j : ℕ). bit (getD bound (position x) 0) p && (bit iotas p || bit iotas (position x) || eqb j (element x))) (position-at k e h) (element-at k e h)
-            ∙ not-both (bit (getD bound (position x) 0) k) _ f g
+            ∙ both-true (bit (getD bound (position x) 0) k) _ f g
 
         -- every step that x must follow has come: no position that it is bound to holds it up
         frees : T (each awaited (stepsBy n vlr iotas)) → (k e : ℕ) → bit needed k ≡ true → e < 64 → (bit iotas (position x) || eqb e (element x)) ≡ true → bit (getD came e 0) k ≡ true
@@ -323,14 +317,6 @@ module _ (n vlr iotas : ℕ) (few : n ≤ 16) (short : vlr ≤ 64) where
           new-bit : (e k : ℕ) → e < 64 → bit (getD came′ e 0) k ≡ ((bit iotas (position (getD list i 0)) || eqb e (element (getD list i 0))) && eqb k (position (getD list i 0)) || bit (getD came e 0) k)
           new-bit e k g = ap (λ (v : ℕ). bit v k) (comes .sets e g) ∙ bit-joined-if (bit iotas (position x) || eqb e (element x)) (getD came e 0) (position x) k
 
-          none : (a : Bool) → (a && false) ≡ false
-          none true = refl
-          none false = refl
-
-          always : (a : Bool) → (a || true) ≡ true
-          always true = refl
-          always false = refl
-
           -- no other step has come with it
           alone : (y : ℕ) → IsStep n vlr iotas y → ((bit iotas (position (getD list i 0)) || eqb (element y) (element (getD list i 0))) && eqb (position y) (position (getD list i 0))) ≡ eqb y (getD list i 0)
           alone y s = go (ℕ-discrete y (getD list i 0)) (ℕ-discrete (position y) (position (getD list i 0))) (bit iotas (position (getD list i 0))) refl
@@ -338,11 +324,11 @@ module _ (n vlr iotas : ℕ) (few : n ≤ 16) (short : vlr ≤ 64) where
               go : Dec (y ≡ getD list i 0) → Dec (position y ≡ position (getD list i 0)) → (b : Bool) → bit iotas (position (getD list i 0)) ≡ b → ((bit iotas (position (getD list i 0)) || eqb (element y) (element (getD list i 0))) && eqb (position y) (position (getD list i 0))) ≡ eqb y (getD list i 0)
               go (yes e) d b z =
                   ap₂ (λ (u v : Bool). (bit iotas (position (getD list i 0)) || u) && v) (eq-eqb (element y) (element (getD list i 0)) (ap element e)) (eq-eqb (position y) (position (getD list i 0)) (ap position e))
-                  ∙ ap (λ (u : Bool). u && true) (always (bit iotas (position (getD list i 0))))
+                  ∙ ap (λ (u : Bool). u && true) (or-always (bit iotas (position (getD list i 0))))
                   ∙ sym (eq-eqb y (getD list i 0) e)
               go (no e) (no d) b z =
                   ap (λ (v : Bool). (bit iotas (position (getD list i 0)) || eqb (element y) (element (getD list i 0))) && v) (ne-eqb (position y) (position (getD list i 0)) d)
-                  ∙ none (bit iotas (position (getD list i 0)) || eqb (element y) (element (getD list i 0)))
+                  ∙ and-none (bit iotas (position (getD list i 0)) || eqb (element y) (element (getD list i 0)))
                   ∙ sym (ne-eqb y (getD list i 0) e)
               go (no e) (yes d) true z =
                   let a = first y s (ap (bit iotas) d ∙ z) in let b = first (getD list i 0) entry-step z in
@@ -355,7 +341,7 @@ module _ (n vlr iotas : ℕ) (few : n ≤ 16) (short : vlr ≤ 64) where
           entry-comes = record {
             long = comes .long ∙ inv .long;
             on = check-on (followsBy iotas bound) (stepsBy n vlr iotas) list (hasCome came) i (inv .on) h (may-same x ∙ may) (hasCome came′) (λ y m. new-bit (element y) (position y) (omega arith) ∙ ap (λ (b : Bool). b || hasCome came y) (alone y (mem→step y m)));
-            beyond = λ k e l z a b. new-bit e k b ∙ ap (λ (t : Bool). (bit iotas (position x) || eqb e (element x)) && eqb k (position x) || t) (inv .beyond k e l z a b) ∙ always ((bit iotas (position x) || eqb e (element x)) && eqb k (position x));
+            beyond = λ k e l z a b. new-bit e k b ∙ ap (λ (t : Bool). (bit iotas (position x) || eqb e (element x)) && eqb k (position x) || t) (inv .beyond k e l z a b) ∙ or-always ((bit iotas (position x) || eqb e (element x)) && eqb k (position x));
             alike = λ k e l z g. new-bit e k g ∙ both-ways k e l z g (ℕ-discrete k (position x)) ∙ sym (new-bit 0 k (omega arith));
           }
             where
@@ -372,14 +358,9 @@ module _ (n vlr iotas : ℕ) (few : n ≤ 16) (short : vlr ≤ 64) where
                   ∙ sym (aside (bit iotas (position (getD list i 0)) || eqb 0 (element (getD list i 0))) (bit (getD came 0 0) k))
                 where
                   aside : (a b : Bool) → (a && eqb k (position (getD list i 0)) || b) ≡ b
-                  aside a b = ap (λ (v : Bool). a && v || b) (ne-eqb k (position (getD list i 0)) d) ∙ ap (λ (v : Bool). v || b) (none a)
+                  aside a b = ap (λ (v : Bool). a && v || b) (ne-eqb k (position (getD list i 0)) d) ∙ ap (λ (v : Bool). v || b) (and-none a)
 
     -- ---- at the start nothing has come
-    zeros : (l j : ℕ) → _≡_ {A = ℕ} (getD (replicate l 0) j 0) 0
-    zeros zero j = refl
-    zeros (suc l) zero = refl
-    zeros (suc l) (suc j) = zeros l j
-
     module _ (fits : iotas < 2 ^ 64) (list came : List ℕ) (starts : Started vlr iotas (replicate 64 0) came) where
       low : (e k : ℕ) → e < vlr → bit (getD came e 0) k ≡ false
       low e k h = ap (λ (v : ℕ). bit v k) (starts .low e h ∙ zeros 64 e) ∙ bit-none k

@@ -2,7 +2,7 @@
 use mathlib.Core.Path.{_≡_, refl, sym, ap, ap₂, subst, _∙_}
 use mathlib.Core.Bool.{Bool, true, false, not, _&&_, _||_}
 use mathlib.Core.List.{List}
-use Prim.Native.Nat.{ℕ, zero, suc, _+_, _<_}
+use Prim.Native.Nat.{ℕ, _+_, _<_}
 use native.Mathlib.Omega.{arith}
 use native.Mathlib.Decide.{ℕ-discrete}
 use borrow.Author.Tests.{eq-eqb, ne-eqb, ltb-true}
@@ -17,21 +17,11 @@ use Rattle.machine.specs.Kind.{kindOf, isCompare, isMerge, isIota}
 use Rattle.queue.specs.Touch.{isConvert}
 use Rattle.queue.specs.Binds.{readsRegister, readsMask, feeds, sameTarget, binds}
 use Rattle.queue.specs.Tables.{joined, Below, readsVa, readsBit, readsPlace, target, setIf, joinedAt, readersWith, writersWith, boundTo}
+use Rattle.queue.proofs.Tests.{and-none, and-whole, or-alone}
+use Rattle.queue.proofs.Filling.{zeros}
 use Rattle.queue.proofs.Sets.{or-swap, bit-or, bit-none, bit-joined, Built, built-none, built-at, built-grown}
 
 -- ---- tests
-none : (a : Bool) → (a && false) ≡ false
-none true = refl
-none false = refl
-
-whole : (a : Bool) → (a && true) ≡ a
-whole true = refl
-whole false = refl
-
-alone : (a : Bool) → (a || false) ≡ a
-alone true = refl
-alone false = refl
-
 eqb-swap : (a b : ℕ) → eqb a b ≡ eqb b a
 eqb-swap a b = go (ℕ-discrete a b)
   where
@@ -49,8 +39,8 @@ module _ (b : Instruction) (small : Below b) where
       go false =
           let va = small .va in let vb = small .vb in
           ap₂ (λ (x y : Bool). readsBit b && true || (readsVa b && x || y)) (ne-eqb 16 (b .va .0) (λ e. omega arith)) (ne-eqb 16 (b .vb .0) (λ e. omega arith))
-          ∙ ap₂ (λ (x y : Bool). x || (y || false)) (whole (readsBit b)) (none (readsVa b))
-          ∙ alone (readsBit b)
+          ∙ ap₂ (λ (x y : Bool). x || (y || false)) (and-whole (readsBit b)) (and-none (readsVa b))
+          ∙ or-alone (readsBit b)
 
   register-source : (r : ℕ) → r < 16 → readsPlace b r ≡ readsRegister b r
   register-source r h = go (isIota (kindOf (b .work)))
@@ -59,7 +49,7 @@ module _ (b : Instruction) (small : Below b) where
       go true = ne-eqb r 16 (λ e. omega arith)
       go false =
           ap (λ (x : Bool). readsBit b && x || (readsVa b && eqb r (b .va .0) || eqb r (b .vb .0))) (ne-eqb r 16 (λ e. omega arith))
-          ∙ ap (λ (x : Bool). x || (readsVa b && eqb r (b .va .0) || eqb r (b .vb .0))) (none (readsBit b))
+          ∙ ap (λ (x : Bool). x || (readsVa b && eqb r (b .va .0) || eqb r (b .vb .0))) (and-none (readsBit b))
           ∙ or-swap (readsVa b && eqb r (b .va .0)) (eqb r (b .vb .0))
 
 module _ (a b : Instruction) (sa : Below a) (sb : Below b) where
@@ -68,7 +58,7 @@ module _ (a b : Instruction) (sa : Below a) (sb : Below b) where
   feeds-by = go (isCompare (kindOf (a .work)))
     where
       go : (c : Bool) → readsPlace b (pick c 16 (a .vc .0)) ≡ (c && readsMask b || not c && readsRegister b (a .vc .0))
-      go true = mask-source b sb ∙ sym (alone (readsMask b))
+      go true = mask-source b sb ∙ sym (or-alone (readsMask b))
       go false = register-source b sb (a .vc .0) (sa .vc)
 
   target-by : eqb (target a) (target b)
@@ -137,17 +127,12 @@ module _ (f : ℕ → Instruction) where
     pub written : (s : ℕ) → s < 17 → Built (λ (k : ℕ). eqb (target (f k)) s) (getD writers s 0) p
     pub counted : Built (λ (k : ℕ). isIota (kindOf (f k .work))) (getD writers 17 0) p
 
-  zeros : (l j : ℕ) → _≡_ {A = ℕ} 0 (getD (replicate l 0) j 0)
-  zeros zero j = refl
-  zeros (suc l) zero = refl
-  zeros (suc l) (suc j) = zeros l j
-
   pub noted-none : Noted 0 (replicate 18 0) (replicate 18 0)
   noted-none = record {
     readers-long = refl;
     writers-long = refl;
-    read = λ s. subst (λ (v : ℕ). Built (λ (k : ℕ). readsPlace (f k) s) v 0) (zeros 18 s) (built-none _);
-    written = λ s h. subst (λ (v : ℕ). Built (λ (k : ℕ). eqb (target (f k)) s) v 0) (zeros 18 s) (built-none _);
+    read = λ s. subst (λ (v : ℕ). Built (λ (k : ℕ). readsPlace (f k) s) v 0) (sym (zeros 18 s)) (built-none _);
+    written = λ s h. subst (λ (v : ℕ). Built (λ (k : ℕ). eqb (target (f k)) s) v 0) (sym (zeros 18 s)) (built-none _);
     counted = built-none _;
   }
 
@@ -265,12 +250,12 @@ module _ (f : ℕ → Instruction) where
       counts-at = built-at _ _ _ (inv .counted) k
 
       as-iota : (l w m r c : Bool) → ((((l && w) || (l && m)) || (l && r)) || (l && c)) ≡ (l && (w || m || r || c && true))
-      as-iota true w m r c = ap (λ (z : Bool). w || m || r || z) (sym (whole c))
+      as-iota true w m r c = ap (λ (z : Bool). w || m || r || z) (sym (and-whole c))
       as-iota false w m r c = refl
 
       as-plain : (l w m a b r x y : Bool) → (((l && w) || ((x && (l && m)) || ((y && (l && a)) || (l && b)))) || (l && r)) ≡ (l && (w || (x && m || (y && a || b)) || r || false))
-      as-plain true w m a b r x y = sym (alone (w || (x && m || (y && a || b)) || r))
-      as-plain false w m a b r x y = ap₂ (λ (u v : Bool). (false || (u || (v || false))) || false) (none x) (none y)
+      as-plain true w m a b r x y = sym (or-alone (w || (x && m || (y && a || b)) || r))
+      as-plain false w m a b r x y = ap₂ (λ (u v : Bool). (false || (u || (v || false))) || false) (and-none x) (and-none y)
 
       joint : bit (boundTo ins readers writers) k ≡ (ltb k p && (eqb (target (f k)) (target ins) || readsPlace ins (target (f k)) || readsPlace (f k) (target ins) || isIota (kindOf (f k .work)) && isIota (kindOf (ins .work))))
       unfolding boundTo
@@ -307,7 +292,7 @@ module _ (f : ℕ → Instruction) where
               ∙ ap₂ (λ (x y : Bool). x || y) (bit-if (readsVa ins) (ins .va .0) k ∙ ap (λ (x : Bool). readsVa ins && x) (writes-at (ins .va .0) (omega arith))) (writes-at (ins .vb .0) (omega arith)))))
               r
               ∙ as-plain (ltb k p) _ _ _ _ _ (readsBit ins) (readsVa ins)
-              ∙ ap (λ (x : Bool). ltb k p && (eqb (target (f k)) (target ins) || (readsBit ins && eqb (target (f k)) 16 || (readsVa ins && eqb (target (f k)) (ins .va .0) || eqb (target (f k)) (ins .vb .0))) || readsPlace (f k) (target ins) || x)) (sym (none (isIota (kindOf (f k .work)))))
+              ∙ ap (λ (x : Bool). ltb k p && (eqb (target (f k)) (target ins) || (readsBit ins && eqb (target (f k)) 16 || (readsVa ins && eqb (target (f k)) (ins .va .0) || eqb (target (f k)) (ins .vb .0))) || readsPlace (f k) (target ins) || x)) (sym (and-none (isIota (kindOf (f k .work)))))
 
       pub bound-is : (r : ℕ) → r ≡ boundTo ins readers writers → bit r k ≡ (ltb k p && binds (f k) (f p))
       bound-is r e = ap (λ (v : ℕ). bit v k) e ∙ joint ∙ go (ltb k p) refl

@@ -37,6 +37,23 @@ pub T-dec : (b : Bool) → T b ⊎ (T b → ⊥)
 T-dec true = inl tt
 T-dec false = inr (λ t. t)
 
+-- tests with one that is known
+pub and-none : (a : Bool) → (a && false) ≡ false
+and-none true = refl
+and-none false = refl
+
+pub and-whole : (a : Bool) → (a && true) ≡ a
+and-whole true = refl
+and-whole false = refl
+
+pub or-alone : (a : Bool) → (a || false) ≡ a
+or-alone true = refl
+or-alone false = refl
+
+pub or-always : (a : Bool) → (a || true) ≡ true
+or-always true = refl
+or-always false = refl
+
 -- a property of both branches, each where its test says so
 pub by-pick : {A : Type 0} (P : A → Type 0) (b : Bool) (u v : A) → (T b → P u) → ((T b → ⊥) → P v) → P (pick b u v)
 by-pick P true u v f g = f tt

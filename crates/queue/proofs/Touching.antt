@@ -24,12 +24,9 @@ pub reads-at : (t : Bool) (readers readers′ writers : List ℕ) (s p : ℕ) �
     → (getD writers s 0 ≡ setIf t writers s) × (readers′ ≡ joinedAt t readers s p)
 reads-at t readers readers′ writers s p e f = (ap (λ (b : Bool). setIf b writers s) (sym e), f ∙ ap (λ (b : Bool). joinedAt b readers s p) (sym e))
 
--- a choice, by its test
-takes : {A : Type 0} (b : Bool) (u v : A) → b ≡ true → u ≡ pick b u v
-takes b u v e = ap (λ (t : Bool). pick t u v) (sym e)
-
-leaves : {A : Type 0} (b : Bool) (u v : A) → b ≡ false → v ≡ pick b u v
-leaves b u v e = ap (λ (t : Bool). pick t u v) (sym e)
+-- a choice, where its test is known
+chosen : {A : Type 0} (b c : Bool) (u v : A) → b ≡ c → pick c u v ≡ pick b u v
+chosen b c u v e = ap (λ (t : Bool). pick t u v) (sym e)
 
 -- what a position is bound to
 module _ (ins : Instruction) (p t : ℕ) (readers writers : List ℕ) (at : t ≡ target ins) (i : Bool) (iota : i ≡ isIota (kindOf (ins .work))) where
@@ -43,9 +40,9 @@ module _ (ins : Instruction) (p t : ℕ) (readers writers : List ℕ) (at : t �
   unfolding boundTo readersWith writersWith
   binds-iota e m r w w′ mask first second =
       let y : isIota (kindOf (ins .work)) ≡ true = sym iota ∙ e in (
-        ap₂ (λ (x z : ℕ). bitOr (bitOr (bitOr (getD writers x 0) z) (getD readers x 0)) (getD writers 17 0)) at (mask .0) ∙ takes _ _ _ y,
-        mask .1 ∙ takes _ _ _ y,
-        second ∙ ap (λ (l : List ℕ). joinedAt true l 17 p) (first ∙ ap (λ (x : ℕ). joinedAt true writers x p) at) ∙ takes _ _ _ y,
+        ap₂ (λ (x z : ℕ). bitOr (bitOr (bitOr (getD writers x 0) z) (getD readers x 0)) (getD writers 17 0)) at (mask .0) ∙ chosen _ true _ _ y,
+        mask .1 ∙ chosen _ true _ _ y,
+        second ∙ ap (λ (l : List ℕ). joinedAt true l 17 p) (first ∙ ap (λ (x : ℕ). joinedAt true writers x p) at) ∙ chosen _ true _ _ y,
       )
 
   pub binds-plain : i ≡ false → (convert merge : Bool) (b a m : ℕ) (r₁ r₂ r₃ w : List ℕ)
@@ -63,11 +60,11 @@ module _ (ins : Instruction) (p t : ℕ) (readers writers : List ℕ) (at : t �
         ap (λ (x : ℕ). bitOr (bitOr (getD writers x 0) (bitOr m (bitOr a b))) (getD readers x 0)) at
             ∙ ap₂ (λ (x z : ℕ). bitOr (bitOr (getD writers (target ins) 0) (bitOr x (bitOr z b))) (getD readers (target ins) 0)) (mask .0 ∙ ap (λ (x : Bool). setIf x writers 16) k) (va .0 ∙ ap (λ (x : Bool). setIf x writers (ins .va .0)) v)
             ∙ ap (λ (x : ℕ). bitOr (bitOr (getD writers (target ins) 0) (bitOr (setIf (readsBit ins) writers 16) (bitOr (setIf (readsVa ins) writers (ins .va .0)) x))) (getD readers (target ins) 0)) (vb .0)
-            ∙ leaves _ _ _ y,
+            ∙ chosen _ false _ _ y,
         mask .1
             ∙ ap₂ (λ (x : Bool) (l : List ℕ). joinedAt x l 16 p) k (va .1 ∙ ap₂ (λ (x : Bool) (l : List ℕ). joinedAt x l (ins .va .0) p) v (vb .1))
-            ∙ leaves _ _ _ y,
-        first ∙ ap (λ (x : ℕ). joinedAt true writers x p) at ∙ leaves _ _ _ y,
+            ∙ chosen _ false _ _ y,
+        first ∙ ap (λ (x : ℕ). joinedAt true writers x p) at ∙ chosen _ false _ _ y,
       )
 
 pub target-compare : (ins : Instruction) (t : Bool) → t ≡ isCompare (kindOf (ins .work)) → t ≡ true → (16 ≡ target ins) × (16 < 17)

@@ -1,6 +1,6 @@
 -- `run_order` meets its contract: the loop tests, decodes and binds each position; a list that is not permitted is refused and nothing has changed; a
 -- permitted one is walked, and demand 3 says that this is the straight run. Assumes nothing.
-use mathlib.Core.Path.{refl, sym, ap, _∙_}
+use mathlib.Core.Path.{refl, sym, _∙_}
 use Prim.Native.Nat.{_-_}
 use borrow.Author.Needs.{needs}
 use borrow.Author.Tests.{not-true, not-false}

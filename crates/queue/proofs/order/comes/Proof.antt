@@ -1,6 +1,7 @@
--- `comes` meets its contract: by the law of an entry that is no step of the queue's positions, of IOTA's and of the others. Assumes nothing.
+-- `comes` meets its contract: by the law of an entry past the queue's positions, and that of the others. Assumes nothing.
+use mathlib.Core.Bool.{true, false}
 use borrow.Author.Needs.{needs}
-use Rattle.queue.proofs.Coming.{refuses, may-not, may-iota, may-step}
+use Rattle.queue.proofs.Coming.{refuses, may-not, may-by}
 use Rattle.queue.proofs.order.comes.Statement.{statement}
 use Rattle.queue.proofs.order.comes.Tie as tie
 
@@ -22,7 +23,7 @@ iota-comes-requires c κs = search needs
 returns-2 : tie.Need-returns-2
 returns-2 c =
     let t = c .before .before .before in let b = t .before in
-    may-iota _ _ _ _ _ _ (b .before .if1 .left) _ (b .bit .ensures) _ (t .if2 .taken) (c .iota-comes .ensures)
+    may-by _ _ _ _ _ _ (b .before .if1 .left) _ true _ (b .bit .ensures) (t .if2 .taken) (c .iota-comes .ensures)
 
 mul-step-comes : tie.Need-mul-step-comes
 mul-step-comes c = search needs
@@ -36,7 +37,7 @@ step-comes-requires c κs = search needs
 returns-3 : tie.Need-returns-3
 returns-3 c =
     let e = c .before .before .before in let b = e .before in
-    may-step _ _ _ _ _ _ (b .before .if1 .left) _ (b .bit .ensures) _ (e .if2 .left) (c .step-comes .ensures)
+    may-by _ _ _ _ _ _ (b .before .if1 .left) _ false _ (b .bit .ensures) (e .if2 .left) (c .step-comes .ensures)
 
 pub comes-spec : {M : Type 1} → statement M
 comes-spec =
