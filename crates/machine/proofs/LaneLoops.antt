@@ -1,7 +1,10 @@
 -- The loops over elements, turn by turn. Assumes nothing.
 use mathlib.Core.Path.{_≡_, refl, sym, ap, _∙_}
 use mathlib.Core.Bool.{Bool}
-use Prim.Native.Nat.{ℕ, _-_, _^_, _≤_, _<_}
+use Prim.Native.Nat.{ℕ, _+_, _-_, _/_, _%_, _^_, _≤_, _<_}
+use native.Mathlib.Nat.{div-one}
+use lib.Dec.{eqb}
+use lib.Pow.{shr-shr}
 use Rattle.numbers.specs.Bits.{bit, lowBits}
 use Rattle.numbers.specs.Rising.{rising, ofOnes}
 use Rattle.numbers.proofs.SetBits.{ones-alike, all-below}
@@ -9,7 +12,7 @@ use Rattle.element.specs.declared.Out.{Out}
 use Rattle.element.specs.Receives.{resultOf, coded}
 use Rattle.element.specs.Groups.{shortWork}
 use Rattle.element.proofs.Codes.{NoneOf, shortNumbers, is-floating}
-use Rattle.machine.specs.Loops.{operandAt, Lanes, landed, laneWorked, laneStep, shortAt, floatingAt, convertAt, workAt}
+use Rattle.machine.specs.Loops.{operandAt, Lanes, landed, laneWorked, laneStep, oneAt, shortAt, floatingAt, convertAt, workAt}
 use Rattle.state.specs.Elements.{at}
 
 module _ (w : ℕ → ℕ → ℕ → ℕ → Out) (scalar : Bool) (x va vb vc : ℕ) where
@@ -30,6 +33,25 @@ module _ (w : ℕ → ℕ → ℕ → ℕ → Out) (scalar : Bool) (x va vb vc :
     by-length : (n which : ℕ) (s₀ s : Lanes) → n ≤ 64 → which ≡ lowBits (2 ^ 64 - 1) n → s ≡ rising (laneStep w scalar x va vb vc) n s₀
         → s ≡ rising (ofOnes (laneStep v scalar x va vb vc) which) 64 s₀
     by-length n which s₀ s h e f = by-set which s₀ s (f ∙ all-below (laneStep w scalar x va vb vc) s₀ n which h e)
+
+-- a short work of one element, where matches says that its mask bit is MTF
+module _ (code : ℕ) (exc : Bool) (mask : ℕ) (scalar : Bool) (x va vb vc i a : ℕ) (matches : Bool) (s s′ : Lanes) where
+  pub short-works : matches ≡ bit mask i → a ≡ operandAt scalar x va (s .elements) i → s′ ≡ laneWorked (oneAt code exc matches) a vb vc i s → s′ ≡ laneStep (shortAt code exc mask) scalar x va vb vc i s
+  unfolding laneWorked
+  short-works m e f =
+      works (shortAt code exc mask) scalar x va vb vc i a s s′ e
+      (f ∙ ap (λ (t : Bool). landed vc i s (resultOf (shortWork code) exc 0 t a (at (s .elements) vb i) (at (s .elements) vc i))) m)
+
+-- the mask, halved at each element
+pub unhalved : (mask : ℕ) → mask ≡ mask / 2 ^ 0
+unhalved mask = sym (div-one mask)
+
+module _ (mask left i : ℕ) (e : left ≡ mask / 2 ^ i) where
+  pub its-bit : eqb (left % 2) 1 ≡ bit mask i
+  its-bit = ap (λ (y : ℕ). eqb (y % 2) 1) e
+
+  pub halved : left / 2 ≡ mask / 2 ^ (i + 1)
+  halved = ap (λ (y : ℕ). y / 2) e ∙ shr-shr mask i 1
 
 -- the loops by the work's number: a short work, where the number is a constant, and any other
 module _ (code : ℕ) (exc : Bool) (field mask : ℕ) (scalar : Bool) (x va vb vc which : ℕ) (s₀ s : Lanes) where

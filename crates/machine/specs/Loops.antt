@@ -50,6 +50,9 @@ unfoldable pub laneStep : (ℕ → ℕ → ℕ → ℕ → Out) → Bool → ℕ
 laneStep w scalar x va vb vc i s = laneWorked w (operandAt scalar x va (s .elements) i) vb vc i s
 
 -- the works by their numbers
+abbrev pub oneAt : ℕ → Bool → Bool → ℕ → ℕ → ℕ → ℕ → Out
+oneAt code exc matches i a b c = resultOf (shortWork code) exc 0 matches a b c
+
 abbrev pub shortAt : ℕ → Bool → ℕ → ℕ → ℕ → ℕ → ℕ → Out
 shortAt code exc mask i a b c = resultOf (shortWork code) exc 0 (bit mask i) a b c
 

@@ -11,7 +11,7 @@ ghost use Rattle.numbers.specs.Rising.{rising, ofOnes};
 ghost use Rattle.opcodes.specs.WorkNumbers.{workNumber};
 ghost use mathlib.Core.Bool.{false};
 ghost use Rattle.machine.specs.Kind.{kindOf, isCompare};
-ghost use Rattle.machine.specs.Loops.{lanes, laneWorked, laneStep, shortAt, floatingAt, convertAt, workAt};
+ghost use Rattle.machine.specs.Loops.{lanes, laneWorked, laneStep, oneAt, shortAt, floatingAt, convertAt, workAt};
 
 // A short work of one element.
 fn short(
@@ -19,23 +19,23 @@ fn short(
     types: u64,
     code: u8,
     exc: bool,
-    mask: u64,
+    matches: bool,
     a: u64,
     vb: usize,
     vc: usize,
     i: usize,
 ) -> u64
     requires { ⌜ (vb < 16) × (vc < 16) × (i < 64) ⌝ }
-    ensures { λ r. ⌜ lanes (now (elements .exit)) r ≡ laneWorked (shortAt code exc mask) a vb vc i (lanes (now (elements .entry)) types) ⌝ }
+    ensures { λ r. ⌜ lanes (now (elements .exit)) r ≡ laneWorked (oneAt code exc matches) a vb vc i (lanes (now (elements .entry)) types) ⌝ }
 {
     let b = elements[vb * 64 + i];
     let to = vc * 64 + i;
-    let o = element::short(code, exc, (mask >> i) % 2 == 1, a, b, elements[to]);
+    let o = element::short(code, exc, matches, a, b, elements[to]);
     elements[to] = o.value;
     types | o.types
 }
 
-// Every element below n.
+// Every element below n. The mask is halved at each, since vector code has no shift by another number for each element.
 fn every(
     elements: &mut [u64; 1024],
     code: u8,
@@ -52,10 +52,22 @@ fn every(
     ensures { λ r. ⌜ lanes (now (elements .exit)) r ≡ rising (laneStep (shortAt code exc mask) scalar x va vb vc) n (lanes (now (elements .entry)) 0) ⌝ }
 {
     let mut types: u64 = 0;
+    let mut left = mask;
     let mut i: usize = 0;
     while i < n {
         let a = operand::first(&*elements, scalar, x, va, i);
-        types = short(&mut *elements, types, code, exc, mask, a, vb, vc, i);
+        types = short(
+            &mut *elements,
+            types,
+            code,
+            exc,
+            left % 2 == 1,
+            a,
+            vb,
+            vc,
+            i,
+        );
+        left = left / 2;
         i += 1;
     }
     types
@@ -82,7 +94,17 @@ fn chosen(
     while left != 0 {
         let i = bits::lowest(left);
         let a = operand::first(&*elements, scalar, x, va, i);
-        types = short(&mut *elements, types, code, exc, mask, a, vb, vc, i);
+        types = short(
+            &mut *elements,
+            types,
+            code,
+            exc,
+            (mask >> i) % 2 == 1,
+            a,
+            vb,
+            vc,
+            i,
+        );
         left = bits::without_lowest(left);
     }
     types

@@ -1,8 +1,9 @@
+use mathlib.Core.Path.{refl}
 use native.Mathlib.Omega.{arith}
 use borrow.Author.Needs.{needs}
 use Rattle.numbers.proofs.SetBits.{Walk, starts-walk, ends-walk, index-below, less-left, turns-walk}
 use Rattle.machine.specs.Loops.{lanes, laneStep, shortAt}
-use Rattle.machine.proofs.LaneLoops.{works}
+use Rattle.machine.proofs.LaneLoops.{short-works}
 use Rattle.machine.proofs.lanes.chosen.Statement.{statement}
 use Rattle.machine.proofs.lanes.chosen.Tie as tie
 
@@ -21,6 +22,9 @@ lowest-requires c κs = search needs
 first-requires : tie.Need-first-requires Inv-loop μ-loop
 first-requires c κs = let b = index-below _ _ _ _ _ _ (c .before .before .before .loop .inv) (omega arith) (c .before .before .before .loop .inv .small) _ (c .before .lowest .ensures) in search needs
 
+shr-short : tie.Need-shr-short Inv-loop μ-loop
+shr-short c = index-below _ _ _ _ _ _ (c .before .before .before .before .before .loop .inv) (omega arith) (c .before .before .before .before .before .loop .inv .small) _ (c .before .before .before .lowest .ensures)
+
 short-requires : tie.Need-short-requires Inv-loop μ-loop
 short-requires c κs = let b = index-below _ _ _ _ _ _ (c .before .before .before .before .before .loop .inv) (omega arith) (c .before .before .before .before .before .loop .inv .small) _ (c .before .before .before .lowest .ensures) in search needs
 
@@ -31,7 +35,7 @@ loop-less : tie.Need-loop-less Inv-loop μ-loop
 loop-less c = less-left _ _ _ _ _ _ (c .before .before .before .before .before .before .before .loop .inv) (omega arith) (c .before .before .before .before .before .before .before .loop .inv .small) _ (c .before .before .before .before .before .lowest .ensures) _ (c .without-lowest .ensures)
 
 loop-again : tie.Need-loop-again Inv-loop μ-loop
-loop-again c = turns-walk _ _ _ _ _ _ (c .before .before .before .before .before .before .before .loop .inv) (omega arith) (c .before .before .before .before .before .before .before .loop .inv .small) _ (c .before .before .before .before .before .lowest .ensures) _ (c .without-lowest .ensures) _ (works _ _ _ _ _ _ _ _ _ _ (c .before .before .before .first .ensures) (c .before .short .ensures))
+loop-again c = turns-walk _ _ _ _ _ _ (c .before .before .before .before .before .before .before .loop .inv) (omega arith) (c .before .before .before .before .before .before .before .loop .inv .small) _ (c .before .before .before .before .before .lowest .ensures) _ (c .without-lowest .ensures) _ (short-works _ _ _ _ _ _ _ _ _ _ _ _ _ refl (c .before .before .before .first .ensures) (c .before .short .ensures))
 
 returns : tie.Need-returns Inv-loop μ-loop
 returns c = ends-walk _ _ _ _ _ _ (c .before .loop .inv) (c .loop-test .left)
@@ -45,6 +49,7 @@ chosen-spec =
     loop-holds
     lowest-requires
     first-requires
+    shr-short
     short-requires
     without-lowest-requires
     loop-less

@@ -1,22 +1,22 @@
 use borrow.Author.Needs.{needs}
 use mathlib.Core.Path.{_≡_}
-use Prim.Native.Nat.{_≤_, _-_}
+use Prim.Native.Nat.{_≤_, _-_, _/_, _^_}
 use Rattle.numbers.specs.Rising.{rising}
 use Rattle.numbers.proofs.Rising.{turns, ends}
 use Rattle.machine.specs.Loops.{lanes, laneStep, shortAt}
-use Rattle.machine.proofs.LaneLoops.{works}
+use Rattle.machine.proofs.LaneLoops.{short-works, unhalved, its-bit, halved}
 use Rattle.machine.proofs.lanes.every.Statement.{statement}
 use Rattle.machine.proofs.lanes.every.Tie as tie
 
 abbrev Inv-loop : tie.InvT-loop
-Inv-loop elements₀ code exc mask scalar x va vb vc n types₀ i₀ elements types i = (i ≤ n) × (lanes elements types ≡ rising (laneStep (shortAt code exc mask) scalar x va vb vc) i (lanes elements₀ 0))
+Inv-loop elements₀ code exc mask scalar x va vb vc n types₀ left₀ i₀ elements types left i = (i ≤ n) × (left ≡ mask / 2 ^ i) × (lanes elements types ≡ rising (laneStep (shortAt code exc mask) scalar x va vb vc) i (lanes elements₀ 0))
 
 abbrev μ-loop : tie.MeasureT-loop
-μ-loop elements₀ code exc mask scalar x va vb vc n types₀ i₀ elements types i = n - i
+μ-loop elements₀ code exc mask scalar x va vb vc n types₀ left₀ i₀ elements types left i = n - i
 
 loop-holds : tie.Need-loop-holds Inv-loop μ-loop
 unfolding rising
-loop-holds c = search needs
+loop-holds c = search (unhalved, needs)
 
 first-requires : tie.Need-first-requires Inv-loop μ-loop
 first-requires c κs = search needs
@@ -31,7 +31,10 @@ loop-less : tie.Need-loop-less Inv-loop μ-loop
 loop-less c = search needs
 
 loop-again : tie.Need-loop-again Inv-loop μ-loop
-loop-again c = search (turns, works, needs)
+loop-again c =
+    (search needs,
+    halved _ _ _ (c .before .before .before .before .before .loop .inv .1),
+    turns _ _ _ _ _ (c .before .before .before .before .before .loop .inv .2) (short-works _ _ _ _ _ _ _ _ _ _ _ _ _ (its-bit _ _ _ (c .before .before .before .before .before .loop .inv .1)) (c .before .before .first .ensures) (c .short .ensures)))
 
 returns : tie.Need-returns Inv-loop μ-loop
 returns c = search (ends, needs)

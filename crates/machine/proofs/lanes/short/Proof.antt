@@ -21,9 +21,6 @@ mul-to c = search needs
 add-to : tie.Need-add-to
 add-to c = search needs
 
-shr-short : tie.Need-shr-short
-shr-short c = search needs
-
 mul-short : tie.Need-mul-short
 mul-short c = search needs
 
@@ -53,7 +50,6 @@ short-spec =
     element-copy-out-b
     mul-to
     add-to
-    shr-short
     mul-short
     element-copy-out-short
     short-requires
