@@ -19,13 +19,14 @@ use Rattle.queue.specs.Reply.{replyAnswer}
 use Rattle.queue.specs.Run.{outcome, orderRefused, ranThrough, queueRun, verdictOf, byVerdict, orderedRun}
 use Rattle.queue.specs.Order.{Mem, Proper, run as walkOf}
 use Rattle.queue.specs.Touch.{position, stepsOf, mustFollow, act}
-use Rattle.queue.specs.Tables.{decodedAt, actBy, standing}
+use Rattle.queue.specs.Tables.{Below, decodedAt, actBy, throughBy, standing}
 use Rattle.queue.specs.declared.Verdict.{Verdict}
 use Rattle.queue.specs.declared.Verdict.the-variants as verdict
 use Rattle.opcodes.specs.declared.Instruction.{Instruction}
 use Rattle.queue.proofs.Ignores.{Ignores}
 use Rattle.queue.proofs.Claim.{permitted-proper, permitted-straight}
 use Rattle.queue.proofs.Steps.{step-of, step-position}
+use Rattle.queue.proofs.Through.{at-below, same-through}
 use Rattle.queue.proofs.RunLoop.{run-same, same-acts}
 use Rattle.queue.proofs.Accepting.{Lengths, lengths, both}
 
@@ -59,10 +60,6 @@ pub stands-accepted : (c : Control) (q : Queue) (r : Reply) → replyAnswer r �
 unfolding standing
 stands-accepted c q r e f = accepted c q (pick (enabled c) (done 0) disabled) (sym (ap fine e) ∙ f)
 
--- what the run straight through asks
-pub through-meets : (c : Control) (q : Queue) (p : Progress) → Accepted c q → p ≡ progress c false → (p .control .vlr ≤ 64) × (length (q .controlWords) ≡ length (q .opcodes)) × (length (q .scalars) ≡ length (q .opcodes))
-through-meets c q p a e = (rw (ap (λ (b : Progress). b .control .vlr) e) (a .short), a .lengths .words, a .lengths .scalars)
-
 module _ (q : Queue) (l : List ℕ) (c : Control) (r : Reply) (asked : replyAnswer r ≡ acceptance c q) where
   pub reply-accepted : fine (replyAnswer r) ≡ true → Accepted c q
   unfolding acceptance
@@ -75,18 +72,30 @@ module _ (q : Queue) (l : List ℕ) (c : Control) (r : Reply) (asked : replyAnsw
       ap (λ (a : Answer). outcome a (state l c)) asked
       ∙ sym (ap (λ (t : Bool). pick t (outcome (done 0) (ranThrough q (state l c))) (outcome (acceptance c q) (state l c))) (sym (ap fine asked) ∙ f))
 
-  module _ (l′ : List ℕ) (p p′ : Progress) (c′ : Control) (starts : p ≡ progress c false) (ends : c′ ≡ ended p′) where
-    through : run l′ p′ ≡ straight q (size q) (run l p) → state l′ c′ ≡ ranThrough q (state l c)
-    unfolding ranThrough
-    through e =
-        ap (state l′) ends
-        ∙ ap finished (e ∙ ap (λ (b : Progress). straight q (size q) (run l b)) starts)
+  module _ (f : fine (replyAnswer r) ≡ true) (program : List Instruction) (same : (k : ℕ) → k < size q → decodedAt program k ≡ instructionAt q k) where
+    pub through-meets : (p : Progress) → p ≡ progress c false → ((p .control .vlr ≤ 64) × (length (q .scalars) ≤ 16)) × ((k : ℕ) → k < length (q .scalars) → Below (decodedAt program k))
+    through-meets p e =
+        let a = reply-accepted f in (
+          (rw (ap (λ (b : Progress). b .control .vlr) e) (a .short), rw (a .lengths .scalars) (a .lengths .few)),
+          λ k h. rw (same k (rw (a .lengths .scalars) at h)) (at-below q k),
+        )
 
-    pub run-done : fine (replyAnswer r) ≡ true → run l′ p′ ≡ straight q (size q) (run l p) → outcome (done 0) (state l′ c′) ≡ queueRun q (state l c)
-    unfolding queueRun
-    run-done f e =
-        ap (outcome (done 0)) (through e)
-        ∙ sym (ap (λ (t : Bool). pick t (outcome (done 0) (ranThrough q (state l c))) (outcome (acceptance c q) (state l c))) (sym (ap fine asked) ∙ f))
+    module _ (l′ : List ℕ) (p p′ : Progress) (c′ : Control) (starts : p ≡ progress c false) (ends : c′ ≡ ended p′) where
+      through : run l′ p′ ≡ throughBy program (q .scalars) (length (q .scalars)) (run l p) → state l′ c′ ≡ ranThrough q (state l c)
+      unfolding ranThrough
+      through e =
+          ap (state l′) ends
+          ∙ ap finished
+          (e
+          ∙ ap (λ (n : ℕ). throughBy program (q .scalars) n (run l p)) (reply-accepted f .lengths .scalars)
+          ∙ same-through q program same (size q) (omega arith) (run l p)
+          ∙ ap (λ (b : Progress). straight q (size q) (run l b)) starts)
+
+      pub run-done : run l′ p′ ≡ throughBy program (q .scalars) (length (q .scalars)) (run l p) → outcome (done 0) (state l′ c′) ≡ queueRun q (state l c)
+      unfolding queueRun
+      run-done e =
+          ap (outcome (done 0)) (through e)
+          ∙ sym (ap (λ (t : Bool). pick t (outcome (done 0) (ranThrough q (state l c))) (outcome (acceptance c q) (state l c))) (sym (ap fine asked) ∙ f))
 
   -- ---- by a list
   pub order-refused : fine (replyAnswer r) ≡ false → (list : List ℕ) → outcome (replyAnswer r) (state l c) ≡ orderedRun q list (state l c)

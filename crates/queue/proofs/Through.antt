@@ -6,14 +6,14 @@ use Prim.Native.Nat.{ℕ, zero, suc, _+_, _<_, _≤_}
 use native.Mathlib.Omega.{arith}
 use native.Mathlib.Numerals.{add-one}
 use lib.Dec.{lit<}
-use lib.ListN.{getD}
+use lib.ListN.{length, getD}
 use Rattle.numbers.specs.Choice.{pick}
 use Rattle.opcodes.specs.declared.Instruction.{Instruction}
 use Rattle.opcodes.specs.declared.Decoded.{Decoded}
 use Rattle.opcodes.specs.declared.Decoded.the-variants as decoded
 use Rattle.opcodes.specs.declared.Work.the-variants.{AddLongword}
 use Rattle.opcodes.specs.ControlWord.{instructionOf}
-use Rattle.opcodes.specs.Decoding.{decodedOf, Decodes}
+use Rattle.opcodes.specs.Decoding.{decodedOf}
 use Rattle.opcodes.proofs.Passed.{decoded-passed}
 use Rattle.machine.specs.Kind.{kindOf, isCompare, isIota}
 use Rattle.machine.specs.Run.{Run, run, gathered}
@@ -22,19 +22,7 @@ use Rattle.machine.specs.Iota.{iotaStep}
 use Rattle.machine.specs.Instruction.{stepOf, stepsBelow, stepCount, wholeOf}
 use Rattle.queue.specs.Queue.{Queue, size, instructionOr, instructionAt, scalarAt, straight}
 use Rattle.queue.specs.Reply.{instructionFrom}
-use Rattle.queue.specs.Tables.{Below, decodedAt}
-
--- ---- the instruction of an opcode and a control word
-module _ (k c : ℕ) (d : Decoded) (decodes : Decodes k c d) where
-  pub from-accepted : (i : Instruction) → d ≡ decoded.Accepted i → i ≡ instructionFrom k c
-  from-accepted i e = ap (instructionOr (instructionOf AddLongword false 0)) (sym e ∙ decodes .result)
-
-  module _ (i : Instruction) (other : i ≡ instructionOf AddLongword false 0) where
-    pub from-opcode : d ≡ decoded.ReservedOpcode → i ≡ instructionFrom k c
-    from-opcode e = other ∙ ap (instructionOr (instructionOf AddLongword false 0)) (sym e ∙ decodes .result)
-
-    pub from-word : d ≡ decoded.ReservedControlWord → i ≡ instructionFrom k c
-    from-word e = other ∙ ap (instructionOr (instructionOf AddLongword false 0)) (sym e ∙ decodes .result)
+use Rattle.queue.specs.Tables.{Below, decodedAt, throughBy}
 
 -- register numbers are below 16
 pub from-below : (k c : ℕ) → Below (instructionFrom k c)
@@ -47,18 +35,9 @@ from-below k c = go (decodedOf k c) refl
         let p = decoded-passed k c i e .read .passed in
         record { va = p .va-below; vb = p .vb-below; vc = p .vc-below }
 
--- what a whole instruction and a step ask
-pub meets : (k c vlr : ℕ) (i : Instruction) → i ≡ instructionFrom k c → vlr ≤ 64 → (i .va .0 < 16) × (i .vb .0 < 16) × (i .vc .0 < 16) × (vlr ≤ 64)
-meets k c vlr i e h = let b = rw (sym e) at (from-below k c) in (b .va, b .vb, b .vc, h)
-
--- the same for a decoded queue
-module _ (q : Queue) (program : List Instruction) (made : (k : ℕ) → k < size q → decodedAt program k ≡ instructionFrom (getD (q .opcodes) k 0) (getD (q .controlWords) k 0)) where
-  pub program-below : (k : ℕ) → k < size q → Below (decodedAt program k)
-  program-below k h = rw (made k h) (from-below (getD (q .opcodes) k 0) (getD (q .controlWords) k 0))
-
-  pub program-same : (k : ℕ) → k < size q → decodedAt program k ≡ instructionAt q k
-  unfolding instructionAt
-  program-same k h = made k h
+pub at-below : (q : Queue) (k : ℕ) → Below (instructionAt q k)
+unfolding instructionAt
+at-below q k = from-below (getD (q .opcodes) k 0) (getD (q .controlWords) k 0)
 
 -- ---- nothing in a queue writes VLR
 abbrev pub vlrOf : Run → ℕ
@@ -91,16 +70,24 @@ unfolding wholeOf
 whole-vlr ins scalar r = steps-vlr (stepCount ins (vlrOf r)) ins scalar r
 
 -- ---- the loop
-module _ (q : Queue) (r₀ : Run) where
-  pub turns : (k : ℕ) (r r′ : Run) (i : Instruction) → r ≡ straight q k r₀ → i ≡ instructionFrom (getD (q .opcodes) k 0) (getD (q .controlWords) k 0) → r′ ≡ wholeOf i (getD (q .scalars) k 0) r → r′ ≡ straight q (k + 1) r₀
-  unfolding straight instructionAt
-  turns k r r′ i e f g = g ∙ ap (λ (j : Instruction). wholeOf j (scalarAt q k) r) f ∙ ap (wholeOf (instructionAt q k) (scalarAt q k)) e ∙ sym (ap (λ (n : ℕ). straight q n r₀) (add-one k))
+module _ (program : List Instruction) (scalars : List ℕ) (r₀ : Run) where
+  pub turns : (k : ℕ) (r r′ : Run) → r ≡ throughBy program scalars k r₀ → r′ ≡ wholeOf (decodedAt program k) (getD scalars k 0) r → r′ ≡ throughBy program scalars (k + 1) r₀
+  unfolding throughBy
+  turns k r r′ e g = g ∙ ap (wholeOf (decodedAt program k) (getD scalars k 0)) e ∙ sym (ap (λ (n : ℕ). throughBy program scalars n r₀) (add-one k))
 
-  pub ends : (k : ℕ) (r : Run) → r ≡ straight q k r₀ → k ≤ size q → size q ≤ k → r ≡ straight q (size q) r₀
-  ends k r e h g = e ∙ ap (λ (n : ℕ). straight q n r₀) same
+  pub ends : (k : ℕ) (r : Run) → r ≡ throughBy program scalars k r₀ → k ≤ length scalars → length scalars ≤ k → r ≡ throughBy program scalars (length scalars) r₀
+  ends k r e h g = e ∙ ap (λ (n : ℕ). throughBy program scalars n r₀) same
     where
-      same : k ≡ size q
+      same : k ≡ length scalars
       same = omega arith
 
 pub whole-short : (i : Instruction) (scalar : ℕ) (r r′ : Run) → vlrOf r ≤ 64 → r′ ≡ wholeOf i scalar r → vlrOf r′ ≤ 64
 whole-short i scalar r r′ h e = rw (ap vlrOf e ∙ whole-vlr i scalar r) h
+
+-- ---- a decoded queue does what the queue does
+pub same-through : (q : Queue) (program : List Instruction) → ((k : ℕ) → k < size q → decodedAt program k ≡ instructionAt q k) → (n : ℕ) → n ≤ size q → (r : Run) → throughBy program (q .scalars) n r ≡ straight q n r
+unfolding throughBy straight
+same-through q program same zero h r = refl
+same-through q program same (suc n) h r =
+    ap (λ (i : Instruction). wholeOf i (scalarAt q n) (throughBy program (q .scalars) n r)) (same n (omega arith))
+    ∙ ap (wholeOf (instructionAt q n) (scalarAt q n)) (same-through q program same n (omega arith) r)

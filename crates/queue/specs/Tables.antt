@@ -17,8 +17,8 @@ use Rattle.opcodes.specs.declared.Work.the-variants.{AddLongword}
 use Rattle.opcodes.specs.ControlWord.{instructionOf}
 use Rattle.machine.specs.Kind.{kindOf, isCompare, isMerge, isIota}
 use Rattle.machine.specs.Run.{Run}
-use Rattle.machine.specs.Instruction.{stepOf}
-use Rattle.queue.specs.Queue.{Queue, wellFormed, queueRefused}
+use Rattle.machine.specs.Instruction.{stepOf, wholeOf}
+use Rattle.queue.specs.Queue.{Queue, size, wellFormed, fine, acceptance, queueRefused, instructionAt}
 use Rattle.queue.specs.Order.{check}
 use Rattle.queue.specs.Touch.{position, element, passing, isConvert}
 use Rattle.queue.specs.declared.Verdict.{Verdict}
@@ -149,6 +149,16 @@ pub record Started (vlr iotas : ℕ) (came came′ : List ℕ) : Type 0 where
 unfoldable pub actBy : List Instruction → List ℕ → ℕ → Run → Run
 actBy program scalars x r = stepOf (decodedAt program (position x)) (getD scalars (position x) 0) (element x) r
 
+-- and its run straight through
+unfoldable pub throughBy : List Instruction → List ℕ → ℕ → Run → Run
+throughBy program scalars zero r = r
+throughBy program scalars (suc n) r = wholeOf (decodedAt program n) (getD scalars n 0) (throughBy program scalars n r)
+
 -- ---- the tests before the positions of a queue: 12, 8, then 3
 unfoldable pub standing : Control → Queue → Answer
 standing c q = pick (inRange c) (pick (wellFormed q) (pick (enabled c) (done 0) disabled) queueRefused) outOfRange
+
+-- what a queue gets, and its decoded form where it is accepted
+pub record Accepts (c : Control) (q : Queue) (a : Answer) (program : List Instruction) : Type 0 where
+  pub answered : a ≡ acceptance c q
+  pub decoded : fine a ≡ true → (k : ℕ) → k < size q → decodedAt program k ≡ instructionAt q k

@@ -1,19 +1,22 @@
 // Whether a queue is accepted: 12, 8, then 3, then per position from 0: 1, 7, 2.
 use crate::Reply;
-use crate::program;
 use opcodes::ControlWord;
 use opcodes::Instruction;
 use opcodes::Opcode;
+use opcodes::Work;
 use opcodes::control_word;
 use opcodes::table;
 use state;
 use state::Control;
+use state::Register;
 ghost use mathlib.Core.Path.{_≡_};
-ghost use mathlib.Core.Bool.{true};
+ghost use mathlib.Core.Bool.{true, false};
+ghost use Rattle.opcodes.specs.declared.Work.the-variants.{AddLongword};
+ghost use Rattle.opcodes.specs.ControlWord.{instructionOf};
 ghost use Rattle.opcodes.specs.Opcodes.{opcodeOf};
-ghost use Rattle.queue.specs.Queue.{wellFormed, ofOpcode, fine, acceptance};
+ghost use Rattle.queue.specs.Queue.{wellFormed, ofOpcode, fine};
 ghost use Rattle.queue.specs.Reply.{queue, replyAnswer, instructionFrom};
-ghost use Rattle.queue.specs.Tables.{standing};
+ghost use Rattle.queue.specs.Tables.{standing, Accepts};
 
 // At most 16 instructions, and parts of equal length.
 fn well_formed(opcodes: &[u8], cntrls: &[u16], scalars: &[u64]) -> bool
@@ -22,20 +25,20 @@ fn well_formed(opcodes: &[u8], cntrls: &[u16], scalars: &[u64]) -> bool
     (opcodes.len() <= 16) & (cntrls.len() == opcodes.len()) & (scalars.len() == opcodes.len())
 }
 
-// What one position gets. A refused opcode ends the check: only an accepted one has its control word read.
-fn at_position(position: u64, opcode: u8, cntrl: u16) -> Reply
-    ensures { λ r. ⌜ replyAnswer r ≡ ofOpcode position (opcodeOf opcode) cntrl ⌝ }
+// The instruction that stands for a refused one, which no accepted queue has.
+fn other() -> Instruction
+    ensures { λ r. ⌜ r ≡ instructionOf AddLongword false 0 ⌝ }
 {
-    let Opcode::Accepted(work, scalar) = table::look_up(opcode) else {
-        return Reply::ReservedOpcode(position);
-    };
-    if table::is_memory(work) {
-        return Reply::MemoryOpcode(position);
+    Instruction {
+        work: Work::AddLongword,
+        scalar: false,
+        moe: false,
+        mtf: false,
+        exc: false,
+        va: Register(0),
+        vb: Register(0),
+        vc: Register(0),
     }
-    let ControlWord::Accepted(_) = control_word::read_control(work, scalar, cntrl) else {
-        return Reply::ReservedControlWord(position);
-    };
-    Reply::Done
 }
 
 // What one position gets, and its instruction where it gets nothing.
@@ -49,12 +52,12 @@ fn refused(reply: Reply) -> Position
 {
     Position {
         reply,
-        instruction: program::other(),
+        instruction: other(),
     }
 }
 
-// The same test as at_position, for a caller that wants the instruction too. Each has one caller, so that each is compiled into its loop.
-pub fn decode_at(position: u64, opcode: u8, cntrl: u16) -> Position
+// A refused opcode ends the test: only an accepted one has its control word read. This has one caller, so that it is compiled into its loop.
+fn decode_at(position: u64, opcode: u8, cntrl: u16) -> Position
     ensures { λ r. ⌜ (replyAnswer (r .reply) ≡ ofOpcode position (opcodeOf opcode) cntrl) × (fine (replyAnswer (r .reply)) ≡ true → r .instruction ≡ instructionFrom opcode cntrl) ⌝ }
 {
     let Opcode::Accepted(work, scalar) = table::look_up(opcode) else {
@@ -73,7 +76,7 @@ pub fn decode_at(position: u64, opcode: u8, cntrl: u16) -> Position
 }
 
 // The tests before the positions: 12, 8, then 3.
-pub fn stand(control: Control, opcodes: &[u8], cntrls: &[u16], scalars: &[u64]) -> Reply
+fn stand(control: Control, opcodes: &[u8], cntrls: &[u16], scalars: &[u64]) -> Reply
     ensures { λ r. ⌜ replyAnswer r ≡ standing control (queue (now (opcodes .entry)) (now (cntrls .entry)) (now (scalars .entry))) ⌝ }
 {
     if !state::in_range(control) {
@@ -88,21 +91,38 @@ pub fn stand(control: Control, opcodes: &[u8], cntrls: &[u16], scalars: &[u64]) 
     Reply::Done
 }
 
-// Done where the queue is accepted.
-pub fn accept(control: Control, opcodes: &[u8], cntrls: &[u16], scalars: &[u64]) -> Reply
-    ensures { λ r. ⌜ replyAnswer r ≡ acceptance control (queue (now (opcodes .entry)) (now (cntrls .entry)) (now (scalars .entry))) ⌝ }
+// What a queue gets, and its instructions where it gets nothing.
+pub struct Accepted {
+    pub reply: Reply,
+    pub program: [Instruction; 16],
+}
+
+// Done where the queue is accepted. Each position is decoded once, here.
+pub fn accept(control: Control, opcodes: &[u8], cntrls: &[u16], scalars: &[u64]) -> Accepted
+    ensures { λ r. ⌜ Accepts control (queue (now (opcodes .entry)) (now (cntrls .entry)) (now (scalars .entry))) (replyAnswer (r .reply)) (r .program) ⌝ }
 {
+    let other = other();
+    let mut program = [other; 16];
     let standing = stand(control, opcodes, cntrls, scalars);
     if !crate::is_done(standing) {
-        return standing;
+        return Accepted {
+            reply: standing,
+            program,
+        };
     }
     let mut k: usize = 0;
     while k < opcodes.len() {
-        let reply = at_position(k as u64, opcodes[k], cntrls[k]);
+        let position = decode_at(k as u64, opcodes[k], cntrls[k]);
+        let reply = position.reply;
         if !crate::is_done(reply) {
-            return reply;
+            return Accepted { reply, program };
         }
+        let instruction = position.instruction;
+        program[k] = instruction;
         k += 1;
     }
-    Reply::Done
+    Accepted {
+        reply: Reply::Done,
+        program,
+    }
 }

@@ -10,7 +10,6 @@ ghost use Rattle.queue.specs.Run.{outcome, queueRun, orderedRun};
 mod acceptance;
 mod bound;
 mod order;
-mod program;
 mod runs;
 
 // What the check of an order list says.
@@ -63,11 +62,13 @@ pub fn run(
 ) -> Ran
     ensures { λ r. ⌜ outcome (replyAnswer (r .reply)) (state (now (elements .exit)) (r .control)) ≡ queueRun (queue (now (opcodes .entry)) (now (cntrls .entry)) (now (scalars .entry))) (state (now (elements .entry)) control) ⌝ }
 {
-    let reply = acceptance::accept(control, opcodes, cntrls, scalars);
+    let accepted = acceptance::accept(control, opcodes, cntrls, scalars);
+    let reply = accepted.reply;
     if !is_done(reply) {
         return Ran { reply, control };
     }
-    let progress = runs::straight(elements, run::begin(control), opcodes, cntrls, scalars);
+    let program = accepted.program;
+    let progress = runs::straight(elements, run::begin(control), program, scalars);
     Ran {
         reply: Reply::Done,
         control: run::end(progress),
@@ -86,32 +87,23 @@ pub fn run_order(
 ) -> Ran
     ensures { λ r. ⌜ outcome (replyAnswer (r .reply)) (state (now (elements .exit)) (r .control)) ≡ orderedRun (queue (now (opcodes .entry)) (now (cntrls .entry)) (now (scalars .entry))) (now (list .entry)) (state (now (elements .entry)) control) ⌝ }
 {
-    let standing = acceptance::stand(control, opcodes, cntrls, scalars);
-    if !is_done(standing) {
-        return Ran {
-            reply: standing,
-            control,
-        };
+    let accepted = acceptance::accept(control, opcodes, cntrls, scalars);
+    let reply = accepted.reply;
+    if !is_done(reply) {
+        return Ran { reply, control };
     }
-    let other = program::other();
-    let mut program = [other; 16];
     let mut bound = [0u64; 16];
     let mut readers = [0u64; 18];
     let mut writers = [0u64; 18];
     let mut k: usize = 0;
     while k < opcodes.len() {
-        let position = acceptance::decode_at(k as u64, opcodes[k], cntrls[k]);
-        let reply = position.reply;
-        if !is_done(reply) {
-            return Ran { reply, control };
-        }
-        let instruction = position.instruction;
-        program[k] = instruction;
+        let instruction = accepted.program[k];
         bound[k] = bound::bind(instruction, k, &mut readers, &mut writers);
         k += 1;
     }
     match order::check(opcodes.len(), control.vlr, writers[17], &bound, list) {
         Verdict::Permitted => {
+            let program = accepted.program;
             let progress = runs::walk(elements, run::begin(control), program, scalars, list);
             Ran {
                 reply: Reply::Done,

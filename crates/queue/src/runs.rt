@@ -1,5 +1,4 @@
 // The runs of an accepted queue: straight through, and by a list.
-use crate::program;
 use machine::Progress;
 use machine::instruction;
 use opcodes::Instruction;
@@ -8,27 +7,25 @@ ghost use mathlib.Core.Path.{_≡_};
 ghost use Prim.Native.Nat.{ℕ, _≤_, _<_};
 ghost use lib.ListN.{length, getD};
 ghost use Rattle.machine.specs.Run.{run as runOf};
-ghost use Rattle.queue.specs.Queue.{straight as straightOf};
 ghost use Rattle.queue.specs.Order.{run};
 ghost use Rattle.queue.specs.Touch.{position};
-ghost use Rattle.queue.specs.Reply.{queue};
-ghost use Rattle.queue.specs.Tables.{Below, decodedAt, actBy};
+ghost use Rattle.queue.specs.Tables.{Below, decodedAt, actBy, throughBy};
 
 // Each instruction in queue order, done whole on what the last one left.
 pub fn straight(
     elements: &mut [u64; 1024],
     begun: Progress,
-    opcodes: &[u8],
-    cntrls: &[u16],
+    program: [Instruction; 16],
     scalars: &[u64],
 ) -> Progress
-    requires { ⌜ (begun .control .vlr ≤ 64) × (length (now cntrls) ≡ length (now opcodes)) × (length (now scalars) ≡ length (now opcodes)) ⌝ }
-    ensures { λ r. ⌜ runOf (now (elements .exit)) r ≡ straightOf (queue (now (opcodes .entry)) (now (cntrls .entry)) (now (scalars .entry))) (length (now (opcodes .entry))) (runOf (now (elements .entry)) begun) ⌝ }
+    requires { ⌜ (begun .control .vlr ≤ 64) × (length (now scalars) ≤ 16) ⌝ }
+    requires { ⌜ ((k : ℕ) → k < length (now scalars) → Below (decodedAt program k)) ⌝ }
+    ensures { λ r. ⌜ runOf (now (elements .exit)) r ≡ throughBy program (now (scalars .entry)) (length (now (scalars .entry))) (runOf (now (elements .entry)) begun) ⌝ }
 {
     let mut progress = begun;
     let mut k: usize = 0;
-    while k < opcodes.len() {
-        let instruction = program::instruction_from(opcodes[k], cntrls[k]);
+    while k < scalars.len() {
+        let instruction = program[k];
         progress = instruction::whole(&mut *elements, progress, instruction, scalars[k]);
         k += 1;
     }

@@ -3,7 +3,7 @@ use mathlib.Core.Path.{sym, _∙_}
 use borrow.Author.Needs.{needs}
 use borrow.Author.Tests.{not-true, not-false}
 use Rattle.queue.specs.Reply.{queue}
-use Rattle.queue.proofs.Calls.{reply-accepted, through-meets, run-refused, run-done}
+use Rattle.queue.proofs.Calls.{through-meets, run-refused, run-done}
 use Rattle.queue.proofs.run.Statement.{statement}
 use Rattle.queue.proofs.run.Tie as tie
 
@@ -16,24 +16,24 @@ is-done-requires c κs = search needs
 returns : tie.Need-returns
 returns c =
     let a = c .before .before in
-    run-refused _ _ _ (a .accept .result) (a .accept .ensures) (sym (c .before .is-done .ensures) ∙ not-true _ (c .if1 .taken))
+    run-refused _ _ _ (a .accept .result .reply) (a .accept .ensures .answered) (sym (c .before .is-done .ensures) ∙ not-true _ (c .if1 .taken))
 
 begin-requires : tie.Need-begin-requires
 begin-requires c κs = search needs
 
 straight-requires : tie.Need-straight-requires
 straight-requires c κs =
-    let e = c .before .before in let a = e .before .before in let s = a .before .before .before .before .args in
-    let q = queue (s .opcodes .now) (s .cntrls .now) (s .scalars .now) in
-    through-meets (s .control) q _ (reply-accepted q (s .elements .now) _ (a .accept .result) (a .accept .ensures) (sym (e .before .is-done .ensures) ∙ not-false _ (e .if1 .left))) (c .begin .ensures)
+    let e = c .before .before .before in let a = e .before .before in let s = a .before .before .before .before .args in
+    let q = queue (s .opcodes .now) (s .cntrls .now) (s .scalars .now) in let fine = sym (e .before .is-done .ensures) ∙ not-false _ (e .if1 .left) in
+    through-meets q (s .elements .now) _ (a .accept .result .reply) (a .accept .ensures .answered) fine (a .accept .result .program) (a .accept .ensures .decoded fine) _ (c .begin .ensures)
 
 end-requires : tie.Need-end-requires
 end-requires c κs = search needs
 
 returns-2 : tie.Need-returns-2
 returns-2 c =
-    let b = c .before .before in let e = b .before .before in let a = e .before .before in
-    run-done _ _ _ (a .accept .result) (a .accept .ensures) _ _ _ _ (b .begin .ensures) (c .end .ensures) (sym (e .before .is-done .ensures) ∙ not-false _ (e .if1 .left)) (c .before .straight .ensures)
+    let b = c .before .before in let e = b .before .before .before in let a = e .before .before in let fine = sym (e .before .is-done .ensures) ∙ not-false _ (e .if1 .left) in
+    run-done _ _ _ (a .accept .result .reply) (a .accept .ensures .answered) fine (a .accept .result .program) (a .accept .ensures .decoded fine) _ _ _ _ (b .begin .ensures) (c .end .ensures) (c .before .straight .ensures)
 
 pub run-spec : {M : Type 1} → statement M
 run-spec =
