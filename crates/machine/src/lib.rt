@@ -18,7 +18,7 @@ pub struct Progress {
     pub recorded: bool,
 }
 
-// What a work writes: an element of Vc; one whatever MOE says; a mask bit; VCR and elements of Vc, in one step; or it moves memory.
+// What a work writes: an element of Vc; one whatever MOE says; a mask bit; VCR and elements of Vc, in one step; or it moves memory. The definitions go by it.
 pub enum Kind {
     Element,
     Merge,
@@ -38,33 +38,6 @@ pub struct Effect {
     pub vmr: u64,
     pub vcr: u64,
     pub notes: u64,
-}
-
-pub fn kind_of(work: Work) -> Kind
-    ensures { λ r. ⌜ r ≡ kindOf work ⌝ }
-{
-    match work {
-        Work::AddLongword => Kind::Element,
-        Work::SubtractLongword => Kind::Element,
-        Work::MultiplyLongword => Kind::Element,
-        Work::CompareLongword => Kind::Compare,
-        Work::BitSet => Kind::Element,
-        Work::ExclusiveOr => Kind::Element,
-        Work::BitClear => Kind::Element,
-        Work::ShiftRight => Kind::Element,
-        Work::ShiftLeft => Kind::Element,
-        Work::AddF => Kind::Element,
-        Work::SubtractF => Kind::Element,
-        Work::MultiplyF => Kind::Element,
-        Work::CompareF => Kind::Compare,
-        Work::Convert => Kind::Element,
-        Work::Iota => Kind::Iota,
-        Work::Merge => Kind::Merge,
-        Work::LoadLongword => Kind::Memory,
-        Work::LoadQuadword => Kind::Memory,
-        Work::StoreLongword => Kind::Memory,
-        Work::StoreQuadword => Kind::Memory,
-    }
 }
 
 // Merge, which ignores MOE.

@@ -2,51 +2,13 @@
 // far that read, or write, each place: registers 0 to 15, the mask bits 16, the count 17.
 use element;
 use machine;
-use machine::Kind;
 use opcodes::Instruction;
 use opcodes::Work;
 ghost use mathlib.Core.Path.{_≡_};
 ghost use mathlib.Core.Bool.{true};
 ghost use Prim.Native.Nat.{_<_};
-ghost use Rattle.machine.specs.Kind.{kindOf, isCompare, isMerge, isIota};
 ghost use Rattle.queue.specs.Touch.{isConvert};
 ghost use Rattle.queue.specs.Tables.{target as targetOf, Below, setIf, joinedAt, boundTo, readersWith, writersWith};
-
-fn is_iota(work: Work) -> bool
-    ensures { λ r. ⌜ r ≡ isIota (kindOf work) ⌝ }
-{
-    match machine::kind_of(work) {
-        Kind::Element => false,
-        Kind::Merge => false,
-        Kind::Compare => false,
-        Kind::Iota => true,
-        Kind::Memory => false,
-    }
-}
-
-fn is_merge(work: Work) -> bool
-    ensures { λ r. ⌜ r ≡ isMerge (kindOf work) ⌝ }
-{
-    match machine::kind_of(work) {
-        Kind::Element => false,
-        Kind::Merge => true,
-        Kind::Compare => false,
-        Kind::Iota => false,
-        Kind::Memory => false,
-    }
-}
-
-fn is_compare(work: Work) -> bool
-    ensures { λ r. ⌜ r ≡ isCompare (kindOf work) ⌝ }
-{
-    match machine::kind_of(work) {
-        Kind::Element => false,
-        Kind::Merge => false,
-        Kind::Compare => true,
-        Kind::Iota => false,
-        Kind::Memory => false,
-    }
-}
 
 fn is_convert(work: Work) -> bool
     ensures { λ r. ⌜ r ≡ isConvert work ⌝ }
@@ -60,7 +22,7 @@ fn target(instruction: Instruction) -> u64
     ensures { λ r. ⌜ (r ≡ targetOf instruction) × (r < 17) ⌝ }
 {
     let work = instruction.work;
-    if is_compare(work) {
+    if machine::is_compare(work) {
         16
     } else {
         instruction.vc.0 as u64
@@ -102,7 +64,7 @@ pub fn bind(
     let place = target(instruction) as usize;
     let before = readers[place];
     let wrote = writers[place];
-    if is_iota(work) {
+    if machine::is_iota(work) {
         let mask = read(true, 16, p, &mut *readers, &*writers);
         let count = writers[17];
         join(&mut *writers, place, p);
@@ -118,7 +80,7 @@ pub fn bind(
         &mut *readers,
         &*writers,
     );
-    let masked = instruction.moe | is_merge(work);
+    let masked = instruction.moe | machine::is_merge(work);
     let mask = read(masked, 16, p, &mut *readers, &*writers);
     join(&mut *writers, place, p);
     wrote | (mask | (va | vb)) | before

@@ -31,10 +31,11 @@ loop-less : tie.Need-loop-less Inv-loop μ-loop
 loop-less c = search needs
 
 loop-again : tie.Need-loop-again Inv-loop μ-loop
-loop-again c =
-    (search needs,
-    halved _ _ _ (c .before .before .before .before .before .loop .inv .1),
-    turns _ _ _ _ _ (c .before .before .before .before .before .loop .inv .2) (short-works _ _ _ _ _ _ _ _ _ _ _ _ _ (its-bit _ _ _ (c .before .before .before .before .before .loop .inv .1)) (c .before .before .first .ensures) (c .short .ensures)))
+loop-again c = (
+  search needs,
+  halved _ _ _ (c .before .before .before .before .before .loop .inv .1),
+  turns _ _ _ _ _ (c .before .before .before .before .before .loop .inv .2) (short-works _ _ _ _ _ _ _ _ _ _ _ _ _ (its-bit _ _ _ (c .before .before .before .before .before .loop .inv .1)) (c .before .before .first .ensures) (c .short .ensures)),
+)
 
 returns : tie.Need-returns Inv-loop μ-loop
 returns c = search (ends, needs)
