@@ -13,7 +13,8 @@ use lib.ListN.{length, getD, replicate}
 use Rattle.numbers.specs.Choice.{pick}
 use Rattle.numbers.specs.Bits.{bit}
 use lib.Pow.{pow-pos}
-use Rattle.numbers.proofs.BitLaws.{one-shifted}
+use Rattle.numbers.proofs.BitLaws.{one-shifted, bit-complement}
+use Rattle.numbers.proofs.Sets.{bit-and, bit-none}
 use Rattle.queue.specs.declared.Verdict.the-variants.{Permitted, Refused}
 use Rattle.queue.specs.Order.{Mem, has, each, check}
 use Rattle.queue.specs.Touch.{position, element}
@@ -23,7 +24,7 @@ use Rattle.queue.proofs.Places.{same-bool, true-T}
 use Rattle.queue.proofs.Steps.{passing→, →passing}
 use Rattle.queue.proofs.Accepting.{both}
 use Rattle.queue.proofs.Filling.{zeros}
-use Rattle.queue.proofs.Sets.{bit-and, bit-none, bit-joined-if, bit-below, bit-complement, within→, →within}
+use Rattle.queue.proofs.Sets.{bit-joined-if, bit-below, within→, →within}
 use Rattle.queue.proofs.CheckLoop.{CheckInv, mayBy, check-start, check-stop, check-on, check-end}
 
 -- the set of the positions below n is worked out without wrapping

@@ -12,6 +12,7 @@ use lib.ListN.{length, getD, set, replicate, length-set}
 use lib.Seq.{getD-set-same, getD-set-other}
 use Rattle.numbers.specs.Choice.{pick}
 use Rattle.numbers.specs.Bits.{bit}
+use Rattle.numbers.proofs.Sets.{bit-or, bit-none}
 use Rattle.opcodes.specs.declared.Instruction.{Instruction}
 use Rattle.machine.specs.Kind.{kindOf, isCompare, isMerge, isIota}
 use Rattle.queue.specs.Touch.{isConvert}
@@ -19,7 +20,7 @@ use Rattle.queue.specs.Binds.{readsRegister, readsMask, feeds, sameTarge
 use Rattle.queue.specs.Tables.{joined, Below, readsVa, readsBit, readsPlace, target, setIf, joinedAt, readersWith, writersWith, boundTo}
 use Rattle.queue.proofs.Tests.{and-none, and-whole, or-alone}
 use Rattle.queue.proofs.Filling.{zeros}
-use Rattle.queue.proofs.Sets.{or-swap, bit-or, bit-none, bit-joined, Built, built-none, built-at, built-grown}
+use Rattle.queue.proofs.Sets.{or-swap, bit-joined, Built, built-none, built-at, built-grown}
 
 -- ---- tests
 eqb-swap : (a b : ℕ) → eqb a b ≡ eqb b a

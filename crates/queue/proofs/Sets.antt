@@ -1,55 +1,20 @@
 -- Sets of positions: a number whose bit k says that k is in it. Assumes nothing.
-use mathlib.Core.Path.{_≡_, refl, sym, ap, ap₂, subst, _∙_}
-use mathlib.Core.Bool.{Bool, true, false, not, _&&_, _||_}
+use mathlib.Core.Path.{_≡_, refl, sym, ap, ap₂, _∙_}
+use mathlib.Core.Bool.{Bool, true, false, _&&_, _||_}
 use Prim.Native.Nat.{ℕ, zero, suc, _+_, _-_, _*_, _/_, _%_, _^_, _<_, _≤_}
 use native.Mathlib.Nat.{mul-mod-left, pow-suc, div-eq-of-lt, zero-div}
 use native.Mathlib.Omega.{arith}
-use native.Mathlib.Decide.{decLt, ℕ-discrete}
+use native.Mathlib.Decide.{decLt}
 use borrow.Author.Tests.{eq-eqb, ne-eqb, eqb-true, lt-ltb, le-ltb}
 use lib.Dec.{eqb, ltb}
-use lib.Bits.{bitAnd, bitOr, and-shr, and-mod, or-shr, or-mod}
+use lib.Bits.{bitOr}
 use lib.Pow.{shl-shr, pow-add, pow-lt, pow-pos}
-use Rattle.numbers.specs.Choice.{pick}
-use Rattle.numbers.specs.Bits.{bit, complement}
-use Rattle.numbers.proofs.BitLaws.{digit, digit-lt, same-digits, digit-complement, bit-counts}
+use Rattle.numbers.specs.Bits.{bit}
+use Rattle.numbers.proofs.BitLaws.{digit-complement, bit-above}
+use Rattle.numbers.proofs.Sets.{same-bits, bit-or, bit-none}
 use Rattle.queue.specs.Tables.{joined, joinedIf, within}
 
-by-digit : (P : ℕ → Type 0) → P 0 → P 1 → (d : ℕ) → d < 2 → P d
-by-digit P p0 p1 zero h = p0
-by-digit P p0 p1 (suc zero) h = p1
-by-digit P p0 p1 (suc (suc d)) h = absurd (big h)
-  where
-    big : suc (suc d) < 2 → ⊥
-    big g = omega arith
-
-either : (d e : ℕ) → d < 2 → e < 2 → eqb (bitOr d e) 1 ≡ (eqb d 1 || eqb e 1)
-either d e h g =
-    by-digit (λ (x : ℕ). eqb (bitOr x e) 1 ≡ (eqb x 1 || eqb e 1))
-    (by-digit (λ (y : ℕ). eqb (bitOr 0 y) 1 ≡ (eqb 0 1 || eqb y 1)) refl refl e g)
-    (by-digit (λ (y : ℕ). eqb (bitOr 1 y) 1 ≡ (eqb 1 1 || eqb y 1)) refl refl e g)
-    d h
-
-both-digits : (d e : ℕ) → d < 2 → e < 2 → eqb (bitAnd d e) 1 ≡ (eqb d 1 && eqb e 1)
-both-digits d e h g =
-    by-digit (λ (x : ℕ). eqb (bitAnd x e) 1 ≡ (eqb x 1 && eqb e 1))
-    (by-digit (λ (y : ℕ). eqb (bitAnd 0 y) 1 ≡ (eqb 0 1 && eqb y 1)) refl refl e g)
-    (by-digit (λ (y : ℕ). eqb (bitAnd 1 y) 1 ≡ (eqb 1 1 && eqb y 1)) refl refl e g)
-    d h
-
--- a bit of a union, of what two sets share, of nothing, of one position
-pub bit-or : (a b k : ℕ) → bit (bitOr a b) k ≡ (bit a k || bit b k)
-bit-or a b k =
-    ap (λ (d : ℕ). eqb d 1) (ap (λ (n : ℕ). n % 2) (or-shr a b k) ∙ or-mod (a / 2 ^ k) (b / 2 ^ k) 1)
-    ∙ either (digit a k) (digit b k) (digit-lt a k) (digit-lt b k)
-
-pub bit-and : (a b k : ℕ) → bit (bitAnd a b) k ≡ (bit a k && bit b k)
-bit-and a b k =
-    ap (λ (d : ℕ). eqb d 1) (ap (λ (n : ℕ). n % 2) (and-shr a b k) ∙ and-mod (a / 2 ^ k) (b / 2 ^ k) 1)
-    ∙ both-digits (digit a k) (digit b k) (digit-lt a k) (digit-lt b k)
-
-pub bit-none : (k : ℕ) → bit 0 k ≡ false
-bit-none k = ap (λ (n : ℕ). eqb (n % 2) 1) (zero-div (2 ^ k))
-
+-- a set of one position
 pow-same : (e : ℕ) → 2 ^ e / 2 ^ e % 2 ≡ 1
 pow-same e = ap (λ (n : ℕ). n / 2 ^ e % 2) (sym (one-mul (2 ^ e))) ∙ ap (λ (n : ℕ). n % 2) (shl-shr 1 e)
   where
@@ -66,13 +31,6 @@ pow-low e k h =
   where
     e-is : e ≡ suc (e - suc k) + k
     e-is = omega arith
-
-bit-above : (x n k : ℕ) → x < 2 ^ n → n ≤ k → bit x k ≡ false
-bit-above x n k small h = ap (λ (d : ℕ). eqb (d % 2) 1) (div-eq-of-lt (less (ℕ-discrete n k)))
-  where
-    less : Dec (n ≡ k) → x < 2 ^ k
-    less (yes e) = subst (λ (m : ℕ). x < 2 ^ m) e small
-    less (no e) = let g : 2 ^ n < 2 ^ k = pow-lt (omega arith) in omega arith
 
 pub bit-one : (e k : ℕ) → bit (2 ^ e) k ≡ eqb k e
 bit-one e k = go (decLt k e) (decLt e k)
@@ -114,10 +72,6 @@ bit-below n k = go (decLt k n)
         ∙ sym (lt-ltb k n h)
     go (no h) = bit-above (2 ^ n - 1) n k (let s = small in omega arith) (omega arith) ∙ sym (le-ltb k n (omega arith))
 
--- the positions that are not in a set
-pub bit-complement : (w x k : ℕ) → x < 2 ^ w → k < w → bit (complement w x) k ≡ not (bit x k)
-bit-complement w x k small h = ap (λ (d : ℕ). eqb d 1) (digit-complement w x k small h) ∙ by-digit (λ (d : ℕ). eqb (1 - d) 1 ≡ not (eqb d 1)) refl refl (digit x k) (digit-lt x k)
-
 -- ---- one set within another
 pub within→ : (a b : ℕ) → within a b ≡ true → (k : ℕ) → bit a k ≡ true → bit b k ≡ true
 within→ a b e k h =
@@ -129,8 +83,7 @@ absorbs false t f = refl
 
 pub →within : (a b : ℕ) → ((k : ℕ) → bit a k ≡ true → bit b k ≡ true) → within a b ≡ true
 →within a b f =
-    eq-eqb (bitOr a b) b
-    (same-digits (bitOr a b) b (λ k. sym (bit-counts (bitOr a b) k) ∙ ap (λ (t : Bool). pick t 1 0) (bit-or a b k ∙ absorbs (bit a k) (bit b k) (f k)) ∙ bit-counts b k))
+    eq-eqb (bitOr a b) b (same-bits (bitOr a b) b (λ k. bit-or a b k ∙ absorbs (bit a k) (bit b k) (f k)))
 
 -- ---- a set that a loop builds: after k turns it has the positions below k that pass the test
 pub Built : (ℕ → Bool) → ℕ → ℕ → Type 0
