@@ -17,7 +17,7 @@ use Rattle.floating.specs.Format.{F, isReserved}
 use Rattle.floating.specs.Operations.{answered, sum, difference}
 use Rattle.floating.specs.declared.Compared.{Compared}
 use Rattle.element.specs.Receives.{coded, quiet, floatingOut, resultOf}
-use Rattle.element.specs.Groups.{shortWork, floatingWork, compareWork}
+use Rattle.element.specs.Groups.{shortWork, totalWork, compareWork}
 
 pub coded-number : (w : Work) → coded (workNumber w) ≡ w
 unfolding coded
@@ -73,63 +73,42 @@ no-short (suc (suc (suc (suc (suc (suc (suc (suc (suc (suc (suc (suc (suc (suc (
 no-short (suc (suc (suc (suc (suc (suc (suc (suc (suc (suc (suc (suc (suc (suc (suc (suc zero)))))))))))))))) r exc matches a b c = absurd (r .1 refl)
 no-short (suc (suc (suc (suc (suc (suc (suc (suc (suc (suc (suc (suc (suc (suc (suc (suc (suc n))))))))))))))))) r exc matches a b c = refl
 
--- floating arithmetic: sum and difference
-pub is-total : (n : ℕ) → (eqb n 10 || eqb n 11) ≡ true → (exc : Bool) (a b c : ℕ)
-    → floatingOut c (answered exc (cond (eqb n 11) (difference F (low a) (low b)) (sum F (low a) (low b)))) ≡ resultOf (floatingWork n) exc 0 false a b c
-unfolding floatingWork resultOf
-is-total n e exc a b c = at (eqb n 10) refl
-  where
-    of : ℕ → Type 0
-    of k = floatingOut c (answered exc (cond (eqb k 11) (difference F (low a) (low b)) (sum F (low a) (low b)))) ≡ resultOf (floatingWork k) exc 0 false a b c
+-- the floating difference, or the sum
+pub is-total : (minus exc : Bool) (a b c : ℕ) → floatingOut c (answered exc (cond minus (difference F (low a) (low b)) (sum F (low a) (low b)))) ≡ resultOf (totalWork minus) exc 0 false a b c
+unfolding resultOf
+is-total true exc a b c = refl
+is-total false exc a b c = refl
 
-    at : (t : Bool) → eqb n 10 ≡ t → of n
-    at true q = subst of (sym (eqb-true n 10 q)) refl
-    at false q = subst of (sym (eqb-true n 11 (sym (ap (λ (t : Bool). t || eqb n 11) q) ∙ e))) refl
+-- the numbers of the other works of a first operand's or a source's value, before those of the short ones
+abbrev pub valueNumbers : List ℕ
+valueNumbers = 14 ∷ 12 ∷ 11 ∷ 10 ∷ shortNumbers
 
--- no other number is one
-pub no-arithmetic : (n : ℕ) → (n ≡ 12 → ⊥) → (eqb n 10 || eqb n 11) ≡ false → (exc : Bool) (a b c : ℕ) → quiet c ≡ resultOf (floatingWork n) exc 0 false a b c
-unfolding floatingWork resultOf
-no-arithmetic zero f g exc a b c = refl
-no-arithmetic (suc zero) f g exc a b c = refl
-no-arithmetic (suc (suc zero)) f g exc a b c = refl
-no-arithmetic (suc (suc (suc zero))) f g exc a b c = refl
-no-arithmetic (suc (suc (suc (suc zero)))) f g exc a b c = refl
-no-arithmetic (suc (suc (suc (suc (suc zero))))) f g exc a b c = refl
-no-arithmetic (suc (suc (suc (suc (suc (suc zero)))))) f g exc a b c = refl
-no-arithmetic (suc (suc (suc (suc (suc (suc (suc zero))))))) f g exc a b c = refl
-no-arithmetic (suc (suc (suc (suc (suc (suc (suc (suc zero)))))))) f g exc a b c = refl
-no-arithmetic (suc (suc (suc (suc (suc (suc (suc (suc (suc zero))))))))) f g exc a b c = refl
-no-arithmetic (suc (suc (suc (suc (suc (suc (suc (suc (suc (suc zero)))))))))) f g exc a b c = absurd (true-not-false (sym g))
-no-arithmetic (suc (suc (suc (suc (suc (suc (suc (suc (suc (suc (suc zero))))))))))) f g exc a b c = absurd (true-not-false (sym g))
-no-arithmetic (suc (suc (suc (suc (suc (suc (suc (suc (suc (suc (suc (suc zero)))))))))))) f g exc a b c = absurd (f refl)
-no-arithmetic (suc (suc (suc (suc (suc (suc (suc (suc (suc (suc (suc (suc (suc n))))))))))))) f g exc a b c = refl
-
--- what is no short work, no compare and no convert is floating arithmetic, or leaves an element as it was
-pub is-floating : (n : ℕ) → NoneOf n shortNumbers → (n ≡ 4 → ⊥) → (n ≡ 13 → ⊥) → (n ≡ 14 → ⊥) → (exc : Bool) (field : ℕ) (matches : Bool) (a b c : ℕ)
-    → resultOf (floatingWork n) exc 0 false a b c ≡ resultOf (coded n) exc field matches a b c
-unfolding coded floatingWork resultOf
-is-floating zero r f g h exc field matches a b c = refl
-is-floating (suc zero) r f g h exc field matches a b c = absurd (r .0 .0 .0 .0 .0 .0 .0 .0 .1 refl)
-is-floating (suc (suc zero)) r f g h exc field matches a b c = absurd (r .0 .0 .0 .0 .0 .0 .0 .1 refl)
-is-floating (suc (suc (suc zero))) r f g h exc field matches a b c = absurd (r .0 .0 .0 .0 .0 .0 .1 refl)
-is-floating (suc (suc (suc (suc zero)))) r f g h exc field matches a b c = absurd (f refl)
-is-floating (suc (suc (suc (suc (suc zero))))) r f g h exc field matches a b c = absurd (r .0 .0 .0 .0 .0 .1 refl)
-is-floating (suc (suc (suc (suc (suc (suc zero)))))) r f g h exc field matches a b c = absurd (r .0 .0 .0 .0 .1 refl)
-is-floating (suc (suc (suc (suc (suc (suc (suc zero))))))) r f g h exc field matches a b c = absurd (r .0 .0 .0 .1 refl)
-is-floating (suc (suc (suc (suc (suc (suc (suc (suc zero)))))))) r f g h exc field matches a b c = absurd (r .0 .0 .1 refl)
-is-floating (suc (suc (suc (suc (suc (suc (suc (suc (suc zero))))))))) r f g h exc field matches a b c = absurd (r .0 .1 refl)
-is-floating (suc (suc (suc (suc (suc (suc (suc (suc (suc (suc zero)))))))))) r f g h exc field matches a b c = refl
-is-floating (suc (suc (suc (suc (suc (suc (suc (suc (suc (suc (suc zero))))))))))) r f g h exc field matches a b c = refl
-is-floating (suc (suc (suc (suc (suc (suc (suc (suc (suc (suc (suc (suc zero)))))))))))) r f g h exc field matches a b c = refl
-is-floating (suc (suc (suc (suc (suc (suc (suc (suc (suc (suc (suc (suc (suc zero))))))))))))) r f g h exc field matches a b c = absurd (g refl)
-is-floating (suc (suc (suc (suc (suc (suc (suc (suc (suc (suc (suc (suc (suc (suc zero)))))))))))))) r f g h exc field matches a b c = absurd (h refl)
-is-floating (suc (suc (suc (suc (suc (suc (suc (suc (suc (suc (suc (suc (suc (suc (suc zero))))))))))))))) r f g h exc field matches a b c = refl
-is-floating (suc (suc (suc (suc (suc (suc (suc (suc (suc (suc (suc (suc (suc (suc (suc (suc zero)))))))))))))))) r f g h exc field matches a b c = absurd (r .1 refl)
-is-floating (suc (suc (suc (suc (suc (suc (suc (suc (suc (suc (suc (suc (suc (suc (suc (suc (suc zero))))))))))))))))) r f g h exc field matches a b c = refl
-is-floating (suc (suc (suc (suc (suc (suc (suc (suc (suc (suc (suc (suc (suc (suc (suc (suc (suc (suc zero)))))))))))))))))) r f g h exc field matches a b c = refl
-is-floating (suc (suc (suc (suc (suc (suc (suc (suc (suc (suc (suc (suc (suc (suc (suc (suc (suc (suc (suc zero))))))))))))))))))) r f g h exc field matches a b c = refl
-is-floating (suc (suc (suc (suc (suc (suc (suc (suc (suc (suc (suc (suc (suc (suc (suc (suc (suc (suc (suc (suc zero)))))))))))))))))))) r f g h exc field matches a b c = refl
-is-floating (suc (suc (suc (suc (suc (suc (suc (suc (suc (suc (suc (suc (suc (suc (suc (suc (suc (suc (suc (suc (suc n))))))))))))))))))))) r f g h exc field matches a b c = refl
+-- what is none of these and no compare leaves an element as it was
+pub is-idle : (n : ℕ) → NoneOf n valueNumbers → (n ≡ 4 → ⊥) → (n ≡ 13 → ⊥) → (exc : Bool) (field : ℕ) (matches : Bool) (a b c : ℕ)
+    → resultOf (shortWork n) exc 0 matches a b c ≡ resultOf (coded n) exc field matches a b c
+unfolding coded shortWork resultOf
+is-idle zero r f g exc field matches a b c = refl
+is-idle (suc zero) r f g exc field matches a b c = absurd (r .0 .0 .0 .0 .0 .0 .0 .0 .0 .0 .0 .0 .1 refl)
+is-idle (suc (suc zero)) r f g exc field matches a b c = absurd (r .0 .0 .0 .0 .0 .0 .0 .0 .0 .0 .0 .1 refl)
+is-idle (suc (suc (suc zero))) r f g exc field matches a b c = absurd (r .0 .0 .0 .0 .0 .0 .0 .0 .0 .0 .1 refl)
+is-idle (suc (suc (suc (suc zero)))) r f g exc field matches a b c = absurd (f refl)
+is-idle (suc (suc (suc (suc (suc zero))))) r f g exc field matches a b c = absurd (r .0 .0 .0 .0 .0 .0 .0 .0 .0 .1 refl)
+is-idle (suc (suc (suc (suc (suc (suc zero)))))) r f g exc field matches a b c = absurd (r .0 .0 .0 .0 .0 .0 .0 .0 .1 refl)
+is-idle (suc (suc (suc (suc (suc (suc (suc zero))))))) r f g exc field matches a b c = absurd (r .0 .0 .0 .0 .0 .0 .0 .1 refl)
+is-idle (suc (suc (suc (suc (suc (suc (suc (suc zero)))))))) r f g exc field matches a b c = absurd (r .0 .0 .0 .0 .0 .0 .1 refl)
+is-idle (suc (suc (suc (suc (suc (suc (suc (suc (suc zero))))))))) r f g exc field matches a b c = absurd (r .0 .0 .0 .0 .0 .1 refl)
+is-idle (suc (suc (suc (suc (suc (suc (suc (suc (suc (suc zero)))))))))) r f g exc field matches a b c = absurd (r .0 .0 .0 .1 refl)
+is-idle (suc (suc (suc (suc (suc (suc (suc (suc (suc (suc (suc zero))))))))))) r f g exc field matches a b c = absurd (r .0 .0 .1 refl)
+is-idle (suc (suc (suc (suc (suc (suc (suc (suc (suc (suc (suc (suc zero)))))))))))) r f g exc field matches a b c = absurd (r .0 .1 refl)
+is-idle (suc (suc (suc (suc (suc (suc (suc (suc (suc (suc (suc (suc (suc zero))))))))))))) r f g exc field matches a b c = absurd (g refl)
+is-idle (suc (suc (suc (suc (suc (suc (suc (suc (suc (suc (suc (suc (suc (suc zero)))))))))))))) r f g exc field matches a b c = absurd (r .1 refl)
+is-idle (suc (suc (suc (suc (suc (suc (suc (suc (suc (suc (suc (suc (suc (suc (suc zero))))))))))))))) r f g exc field matches a b c = refl
+is-idle (suc (suc (suc (suc (suc (suc (suc (suc (suc (suc (suc (suc (suc (suc (suc (suc zero)))))))))))))))) r f g exc field matches a b c = absurd (r .0 .0 .0 .0 .1 refl)
+is-idle (suc (suc (suc (suc (suc (suc (suc (suc (suc (suc (suc (suc (suc (suc (suc (suc (suc zero))))))))))))))))) r f g exc field matches a b c = refl
+is-idle (suc (suc (suc (suc (suc (suc (suc (suc (suc (suc (suc (suc (suc (suc (suc (suc (suc (suc zero)))))))))))))))))) r f g exc field matches a b c = refl
+is-idle (suc (suc (suc (suc (suc (suc (suc (suc (suc (suc (suc (suc (suc (suc (suc (suc (suc (suc (suc zero))))))))))))))))))) r f g exc field matches a b c = refl
+is-idle (suc (suc (suc (suc (suc (suc (suc (suc (suc (suc (suc (suc (suc (suc (suc (suc (suc (suc (suc (suc zero)))))))))))))))))))) r f g exc field matches a b c = refl
+is-idle (suc (suc (suc (suc (suc (suc (suc (suc (suc (suc (suc (suc (suc (suc (suc (suc (suc (suc (suc (suc (suc n))))))))))))))))))))) r f g exc field matches a b c = refl
 
 -- a compare ignores EXC, the mask bit and Vc
 pub compare-ignores : (n : ℕ) (exc : Bool) (relation : ℕ) (matches : Bool) (a b c : ℕ) → resultOf (compareWork n) false relation false a b 0 ≡ resultOf (compareWork n) exc relation matches a b c

@@ -1,12 +1,13 @@
--- The works of one element in groups, each done by a function of its own: integer, logical and shift works and merge, which are short; floating arithmetic; convert; and compares. No public promise cites
+-- The works of one element in groups, each done by a function of its own: integer, logical and shift works and merge, which are short; floating sum and difference; floating product; convert; and compares. No public promise cites
 -- this.
+use mathlib.Core.Bool.{Bool}
 use mathlib.Core.List.{[], _∷_}
 use Prim.Native.Nat.{ℕ}
 use lib.Dec.{eqb}
 use lib.ListN.{getD}
 use Rattle.numbers.specs.Choice.{pick}
 use Rattle.opcodes.specs.declared.Work.{Work}
-use Rattle.opcodes.specs.declared.Work.the-variants.{AddLongword, SubtractLongword, MultiplyLongword, CompareLongword, BitSet, ExclusiveOr, BitClear, ShiftRight, ShiftLeft, AddF, SubtractF, MultiplyF, CompareF, Iota, Merge}
+use Rattle.opcodes.specs.declared.Work.the-variants.{AddLongword, SubtractLongword, MultiplyLongword, CompareLongword, BitSet, ExclusiveOr, BitClear, ShiftRight, ShiftLeft, AddF, SubtractF, CompareF, Iota, Merge}
 
 -- the short work of a number; Iota, which leaves an element as it was, stands for none
 unfoldable pub shortWork : ℕ → Work
@@ -33,26 +34,9 @@ shortWork n =
     n
     Iota
 
--- the floating arithmetic of a number, likewise
-unfoldable pub floatingWork : ℕ → Work
-floatingWork n =
-    getD
-    (Iota
-    ∷ Iota
-    ∷ Iota
-    ∷ Iota
-    ∷ Iota
-    ∷ Iota
-    ∷ Iota
-    ∷ Iota
-    ∷ Iota
-    ∷ Iota
-    ∷ AddF
-    ∷ SubtractF
-    ∷ MultiplyF
-    ∷ [])
-    n
-    Iota
+-- the floating difference, or the sum
+abbrev pub totalWork : Bool → Work
+totalWork minus = pick minus SubtractF AddF
 
 -- the compare of a number
 abbrev pub compareWork : ℕ → Work

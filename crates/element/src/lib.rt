@@ -2,11 +2,11 @@
 use opcodes::Work;
 ghost use mathlib.Core.Path.{_≡_};
 ghost use Rattle.numbers.specs.Choice.{pick};
-ghost use Rattle.opcodes.specs.declared.Work.the-variants.{Convert};
+ghost use Rattle.opcodes.specs.declared.Work.the-variants.{MultiplyF, Convert};
 ghost use Rattle.opcodes.specs.WorkNumbers.{workNumber};
 ghost use mathlib.Core.Bool.{false};
 ghost use Rattle.element.specs.Receives.{quiet as quietOut, bitOut, resultOf};
-ghost use Rattle.element.specs.Groups.{shortWork, floatingWork, compareWork};
+ghost use Rattle.element.specs.Groups.{shortWork, totalWork, compareWork};
 
 mod float;
 mod integer;
@@ -55,17 +55,18 @@ pub fn short(code: u8, exc: bool, matches: bool, a: u64, b: u64, c: u64) -> Out
     }
 }
 
-// Floating arithmetic of one element. One call serves sum and difference, so that the compiler can put it into the loop.
-pub fn arithmetic(code: u8, exc: bool, a: u64, b: u64, c: u64) -> Out
-    ensures { λ r. ⌜ r ≡ resultOf (floatingWork code) exc 0 false a b c ⌝ }
+// The floating sum of one element, or the difference.
+pub fn total(minus: bool, exc: bool, a: u64, b: u64, c: u64) -> Out
+    ensures { λ r. ⌜ r ≡ resultOf (totalWork minus) exc 0 false a b c ⌝ }
 {
-    if code == 12 {
-        return float::multiply(exc, a, b, c);
-    }
-    if (code == 10) | (code == 11) {
-        return float::total(code == 11, exc, a, b, c);
-    }
-    quiet(c)
+    float::total(minus, exc, a, b, c)
+}
+
+// The floating product of one element.
+pub fn product(exc: bool, a: u64, b: u64, c: u64) -> Out
+    ensures { λ r. ⌜ r ≡ resultOf MultiplyF exc 0 false a b c ⌝ }
+{
+    float::multiply(exc, a, b, c)
 }
 
 // The conversion of one element.

@@ -1,21 +1,22 @@
--- The work of the elements of a set: of all that an instruction operates on it is the instruction, of one element its step. Assumes nothing.
-use mathlib.Core.Path.{_≡_, refl, sym, ap, ap₂, _∙_}
+-- The work of the elements of a set: of all that an instruction operates on it is the instruction, of some of them it is their steps. Assumes nothing.
+use mathlib.Core.Path.{_≡_, refl, sym, ap, ap₂, _∙_, subst}
 use mathlib.Core.Bool.{Bool, true, false, not, _||_, _&&_, Bool·beq}
 use mathlib.Core.List.{List}
 use Prim.Native.Nat.{ℕ, zero, suc, _+_, _/_, _%_, _^_, _≤_, _<_}
 use native.Mathlib.Nat.{mod-lt, le-refl}
 use native.Mathlib.Omega.{arith}
 use borrow.Author.Tests.{ltb-true, le-ltb}
+use lib.Bits.{bitAnd}
 use lib.ListN.{set}
 use lib.Dec.{eqb, ltb}
 use Rattle.numbers.specs.Choice.{pick}
 use Rattle.numbers.specs.Bits.{bit, withBit, chosen, OnesBelow}
 use Rattle.numbers.specs.Rising.{rising, ofOnes}
-use Rattle.numbers.proofs.BitLaws.{bit-kept, decEq}
-use Rattle.numbers.proofs.Sets.{bit-none}
+use Rattle.numbers.proofs.BitLaws.{bit-kept}
+use Rattle.numbers.proofs.Sets.{bit-and}
 use Rattle.numbers.proofs.Rising.{settles}
-use Rattle.numbers.proofs.SetBits.{single}
-use Rattle.numbers.proofs.Tests.{true-not-false, and-left, pick-false}
+use Rattle.numbers.proofs.SetBits.{starts-walk, ends-walk, single, has-one}
+use Rattle.numbers.proofs.Tests.{and-left, and-right, pick-true, pick-false}
 use Rattle.state.specs.declared.Control.{Control}
 use Rattle.state.specs.State.{placeOf}
 use Rattle.state.specs.Elements.{matches}
@@ -24,7 +25,7 @@ use Rattle.machine.specs.Kind.{kindOf, isCompare, isMerge, isIota}
 use Rattle.machine.specs.Run.{Run, run, progress, withVmr, gathered}
 use Rattle.machine.specs.Step.{operated, received, written, worked, elementStep}
 use Rattle.machine.specs.Iota.{iotaStep}
-use Rattle.machine.specs.Instruction.{stepOf, stepsBelow, wholeOf}
+use Rattle.machine.specs.Instruction.{stepOf, stepsBelow, stepsIn, wholeOf}
 use Rattle.machine.specs.Loops.{doneFor}
 
 -- IOTA's one step is the whole instruction
@@ -83,12 +84,12 @@ module _ (ins : Instruction) (scalar which : ℕ) (r : Run) where
       at false = refl
 
 -- ---- the set of the elements that an instruction operates on
-module _ (ins : Instruction) (scalar which : ℕ) (r : Run) (short : r .progress .control .vlr ≤ 64) where
+module _ (ins : Instruction) (scalar all : ℕ) (r : Run) (short : r .progress .control .vlr ≤ 64) where
   abbrev merge : Bool
   merge = isMerge (kindOf (ins .work))
 
   abbrev Operated : Type 0
-  Operated = OnesBelow (r .progress .control .vlr) (chosen (ins .moe && not merge) (ins .mtf) (r .progress .control .vmr)) which
+  Operated = OnesBelow (r .progress .control .vlr) (chosen (ins .moe && not merge) (ins .mtf) (r .progress .control .vmr)) all
 
   module _ (set : Operated) where
     same-choice : (moe m x : Bool) → (not moe || m || x) ≡ (not (moe && not m) || x)
@@ -97,7 +98,7 @@ module _ (ins : Instruction) (scalar which : ℕ) (r : Run) (short : r .progress
     same-choice false m x = refl
 
     -- each step finds its element operated on exactly where the set has it
-    is-operated : (n : ℕ) (c : Control) → c .vlr ≡ r .progress .control .vlr → bit (c .vmr) n ≡ bit (r .progress .control .vmr) n → operated ins c n ≡ bit which n
+    is-operated : (n : ℕ) (c : Control) → c .vlr ≡ r .progress .control .vlr → bit (c .vmr) n ≡ bit (r .progress .control .vmr) n → operated ins c n ≡ bit all n
     unfolding operated
     is-operated n c e f =
         ap₂ (λ (v : ℕ) (b : Bool). ltb n v && (not (ins .moe) || merge || Bool·beq b (ins .mtf))) e f
@@ -109,57 +110,81 @@ module _ (ins : Instruction) (scalar which : ℕ) (r : Run) (short : r .progress
       unfolding stepOf
       of-element n x = pick-false (isIota (kindOf (ins .work))) (iotaStep ins scalar x) (elementStep ins scalar n x) no-iota
 
-      same-steps : (n : ℕ) → stepsBelow n ins scalar r ≡ rising (ofOnes (worked ins scalar) which) n r
-      unfolding stepsBelow rising ofOnes elementStep
-      same-steps zero = refl
-      same-steps (suc n) =
-          ap (stepOf ins scalar n) (same-steps n)
-          ∙ of-element n (after ins scalar which r n)
-          ∙ ap (λ (t : Bool). pick t (worked ins scalar n (after ins scalar which r n)) (after ins scalar which r n))
-          (is-operated n (after ins scalar which r n .progress .control) (stays-vlr ins scalar which r n) (stays-bit ins scalar which r n n (le-refl n)))
+      -- the steps that p chooses: the work of those of them that are operated on
+      module _ (p : ℕ → Bool) (which : ℕ) (those : (i : ℕ) → bit which i ≡ (p i && bit all i)) where
+        both : (s t : Bool) (x y : Run) → pick s (pick t x y) y ≡ pick (s && t) x y
+        both true t x y = refl
+        both false t x y = refl
 
-      all-steps : rising (ofOnes (worked ins scalar) which) 64 r ≡ wholeOf ins scalar r
+        same-steps : (n : ℕ) → rising (λ (i : ℕ) (x : Run). pick (p i) (stepOf ins scalar i x) x) n r ≡ rising (ofOnes (worked ins scalar) which) n r
+        unfolding rising ofOnes elementStep
+        same-steps zero = refl
+        same-steps (suc n) =
+            ap (λ (x : Run). pick (p n) (stepOf ins scalar n x) x) (same-steps n)
+            ∙ ap (λ (x : Run). pick (p n) x here)
+            (of-element n here
+            ∙ ap (λ (t : Bool). pick t (worked ins scalar n here) here)
+            (is-operated n (here .progress .control) (stays-vlr ins scalar which r n) (stays-bit ins scalar which r n n (le-refl n))))
+            ∙ both (p n) (bit all n) (worked ins scalar n here) here
+            ∙ ap (λ (t : Bool). pick t (worked ins scalar n here) here) (sym (those n))
+          where
+            here : Run
+            here = after ins scalar which r n
+
+      steps-rise : (n : ℕ) → stepsBelow n ins scalar r ≡ rising (λ (i : ℕ) (x : Run). stepOf ins scalar i x) n r
+      unfolding stepsBelow rising
+      steps-rise zero = refl
+      steps-rise (suc n) = ap (stepOf ins scalar n) (steps-rise n)
+
+      all-steps : rising (ofOnes (worked ins scalar) all) 64 r ≡ wholeOf ins scalar r
       unfolding wholeOf ofOnes
       all-steps =
-          sym (settles (ofOnes (worked ins scalar) which) (after ins scalar which r vlr) r vlr 64 short
-          (λ j h _. pick-false (bit which j) (worked ins scalar j (after ins scalar which r vlr)) (after ins scalar which r vlr) (past j h)) refl)
-          ∙ sym (same-steps vlr)
+          sym (settles (ofOnes (worked ins scalar) all) (after ins scalar all r vlr) r vlr 64 short
+          (λ j h _. pick-false (bit all j) (worked ins scalar j (after ins scalar all r vlr)) (after ins scalar all r vlr) (past j h)) refl)
+          ∙ sym (steps-rise vlr ∙ same-steps (λ _. true) all (λ i. refl) vlr)
           ∙ ap (λ (t : Bool). stepsBelow (pick t 1 vlr) ins scalar r) (sym no-iota)
         where
           vlr : ℕ
           vlr = r .progress .control .vlr
 
-          past : (j : ℕ) → vlr ≤ j → bit which j ≡ false
+          past : (j : ℕ) → vlr ≤ j → bit all j ≡ false
           past j h = set .ones j ∙ ap (λ (t : Bool). t && chosen (ins .moe && not merge) (ins .mtf) (r .progress .control .vmr) j) (le-ltb j vlr h)
 
     -- all of them are the whole instruction
-    pub whole : doneFor which ins scalar r ≡ wholeOf ins scalar r
+    pub whole : doneFor all ins scalar r ≡ wholeOf ins scalar r
     unfolding doneFor
     whole = at (isIota (kindOf (ins .work))) refl
       where
-        at : (t : Bool) → isIota (kindOf (ins .work)) ≡ t → pick t (iotaStep ins scalar r) (rising (ofOnes (worked ins scalar) which) 64 r) ≡ wholeOf ins scalar r
+        at : (t : Bool) → isIota (kindOf (ins .work)) ≡ t → pick t (iotaStep ins scalar r) (rising (ofOnes (worked ins scalar) all) 64 r) ≡ wholeOf ins scalar r
         at true e = one-step ins scalar r e
         at false e = all-steps e
 
-    -- one of them is its step
-    pub step : (i one : ℕ) → i < 64 → one ≡ withBit 0 i (which / 2 ^ i % 2) → doneFor one ins scalar r ≡ stepOf ins scalar i r
-    unfolding doneFor stepOf elementStep
-    step i one h e = ap (λ (x : Run). pick (isIota (kindOf (ins .work))) (iotaStep ins scalar r) x) element
+    -- those of a set are its steps; of an IOTA there is one, that of element 0
+    pub some : (part which : ℕ) → 0 < part → part < 2 ^ 64 → (isIota (kindOf (ins .work)) ≡ true → (i : ℕ) → i < 64 → bit part i ≡ true → i ≡ 0) → which ≡ bitAnd part all
+        → doneFor which ins scalar r ≡ stepsIn part ins scalar r
+    unfolding doneFor stepsIn ofOnes stepOf
+    some part which more word alone e = at (isIota (kindOf (ins .work))) refl
       where
-        element : rising (ofOnes (worked ins scalar) one) 64 r ≡ pick (operated ins (r .progress .control) i) (worked ins scalar i r) r
-        element =
-            ap (λ (x : ℕ). rising (ofOnes (worked ins scalar) x) 64 r) e
-            ∙ single (worked ins scalar) r i (which / 2 ^ i % 2) h (mod-lt (which / 2 ^ i) (omega arith))
-            ∙ ap (λ (t : Bool). pick t (worked ins scalar i r) r) (sym (is-operated i (r .progress .control) refl refl))
+        at : (t : Bool) → isIota (kindOf (ins .work)) ≡ t → pick t (iotaStep ins scalar r) (rising (ofOnes (worked ins scalar) which) 64 r) ≡ rising (ofOnes (stepOf ins scalar) part) 64 r
+        at true k = sym (single (stepOf ins scalar) r 0 part (omega arith) first (alone k) ∙ its-step)
+          where
+            first : bit part 0 ≡ true
+            first = let w = has-one part more word in subst (λ (i : ℕ). bit part i ≡ true) (alone k (w .0) (w .1) (w .2)) (w .2)
 
--- ---- a set of one element lies at it
-pub at-one : (i d one : ℕ) → d < 2 → one ≡ withBit 0 i d → (j : ℕ) → bit one j ≡ true → (i ≤ j) × (j < i + 1)
-at-one i d one small e j g = at (decEq j i)
-  where
-    at : Dec (j ≡ i) → (i ≤ j) × (j < i + 1)
-    at (yes q) = (omega arith, omega arith)
-    at (no q) = absurd (true-not-false (sym (bit-none j) ∙ sym (bit-kept 0 i d small j q) ∙ ap (λ (x : ℕ). bit x j) (sym e) ∙ g))
+            its-step : stepOf ins scalar 0 r ≡ iotaStep ins scalar r
+            its-step = pick-true (isIota (kindOf (ins .work))) (iotaStep ins scalar r) (elementStep ins scalar 0 r) k
+        at false k = sym (same-steps k (bit part) which (λ i. ap (λ (x : ℕ). bit x i) e ∙ bit-and part all i) 64)
+
+-- of no element nothing is done
+pub none : (ins : Instruction) (scalar part : ℕ) (r : Run) → part ≡ 0 → r ≡ stepsIn part ins scalar r
+unfolding stepsIn
+none ins scalar part r e = ends-walk (stepOf ins scalar) part 64 r part r (starts-walk (stepOf ins scalar) part 64 r (omega arith)) e
+
+-- ---- where sets lie
+-- a part of a set that lies below n
+pub part-below : (part all which n : ℕ) → which ≡ bitAnd part all → ((j : ℕ) → bit all j ≡ true → j < n) → (j : ℕ) → bit which j ≡ true → j < n
+part-below part all which n e lies j g = lies j (and-right (bit part j) (bit all j) (sym (bit-and part all j) ∙ ap (λ (x : ℕ). bit x j) (sym e) ∙ g))
 
 -- a set below n lies below n
-pub below : (n : ℕ) (choice : ℕ → Bool) (which : ℕ) → OnesBelow n choice which → (j : ℕ) → bit which j ≡ true → (0 ≤ j) × (j < n)
-below n choice which set j g = (omega arith, ltb-true j n (and-left (ltb j n) (choice j) (sym (set .ones j) ∙ g)))
+pub below : (n : ℕ) (choice : ℕ → Bool) (which : ℕ) → OnesBelow n choice which → (j : ℕ) → bit which j ≡ true → j < n
+below n choice which set j g = ltb-true j n (and-left (ltb j n) (choice j) (sym (set .ones j) ∙ g))

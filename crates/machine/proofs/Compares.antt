@@ -1,20 +1,20 @@
--- The loop over a range of compares, and what it makes of the mask. Assumes nothing.
+-- The loop over compares, and what it makes of the mask. Assumes nothing.
 use mathlib.Core.Path.{_≡_, refl, sym, ap, ap₂, subst, _∙_}
 use mathlib.Core.Bool.{Bool, true, false, not, _||_, _&&_}
 use mathlib.Core.Logic.{_⊎_, inl, inr}
 use mathlib.Core.List.{List}
 use Prim.Native.Nat.{ℕ, zero, suc, _+_, _-_, _*_, _/_, _%_, _^_, _≤_, _<_}
-use native.Mathlib.Nat.{pow-suc, mod-lt, lt-of-lt-of-le}
+use native.Mathlib.Nat.{pow-suc, mod-lt, zero-add}
 use native.Mathlib.Omega.{arith}
 use borrow.Author.Tests.{lt-ltb, le-ltb, ltb-true, eqb-true, eq-eqb, ne-eqb}
 use lib.Dec.{eqb, ltb}
 use lib.Bits.{bitOr, bitAnd, or-zero-l, or-zero-r, or-self}
-use lib.Pow.{pow-mono, pow-pos, shl-exact}
+use lib.Pow.{pow-mono}
 use Rattle.numbers.specs.Choice.{pick}
 use Rattle.numbers.specs.Bits.{bit, withBit}
 use Rattle.numbers.specs.Rising.{rising, ofOnes}
 use Rattle.numbers.proofs.BitLaws.{digit-suc, digit-zero, bit-is, bit-kept, bit-replaced, decEq}
-use Rattle.numbers.proofs.Sets.{same-bits, bit-and, bit-none, bit-moved}
+use Rattle.numbers.proofs.Sets.{same-bits, bit-and, bit-none}
 use Rattle.numbers.proofs.SetBits.{ones-carry}
 use Rattle.numbers.proofs.Tests.{true-not-false, below-or-not, and-left, and-right, pick-true, pick-false}
 use Rattle.state.specs.State.{placeOf}
@@ -73,18 +73,6 @@ odd-bit v i (suc n) (suc k) h =
     same : suc i + k ≡ i + suc k
     same = omega arith
 
--- the set moved up to where it belongs
-pub odd-moved : (v : ℕ → ℕ) (from to : ℕ) → from ≤ to → to ≤ 64 → (k : ℕ) → from ≤ k → k < to → bit (oddFrom v from (to - from) * 2 ^ from % 2 ^ 64) k ≡ eqb (v k % 2) 1
-odd-moved v from to h g k low high =
-    ap (λ (x : ℕ). bit x k) (shl-exact {a = oddFrom v from (to - from)} (to - from) from 64 (odd-small v from (to - from)) (omega arith))
-    ∙ ap (bit (oddFrom v from (to - from) * 2 ^ from)) at-k
-    ∙ bit-moved (oddFrom v from (to - from)) from (k - from)
-    ∙ odd-bit v from (to - from) (k - from) (omega arith)
-    ∙ ap (λ (j : ℕ). eqb (v j % 2) 1) (sym at-k)
-  where
-    at-k : k ≡ from + (k - from)
-    at-k = omega arith
-
 -- ---- the loop, from the highest element down
 pub nothing : (v : ℕ → ℕ) (to : ℕ) → 0 ≡ oddFrom v to (to - to)
 unfolding oddFrom
@@ -101,8 +89,8 @@ module _ (v : ℕ → ℕ) (i to : ℕ) (set : ℕ) (is : set ≡ oddFrom v i (t
       let m : 2 ^ (to - i) ≤ 2 ^ 63 = pow-mono {j = 63} (omega arith) in
       omega arith
 
-  pub done : (from : ℕ) → from ≤ i → i ≤ from → set ≡ oddFrom v from (to - from)
-  done from h g = let e : i ≡ from = omega arith in is ∙ ap (λ (j : ℕ). oddFrom v j (to - j)) e
+  pub done : i ≤ 0 → set ≡ oddFrom v 0 to
+  done g = let e : i ≡ 0 = omega arith in let z : to - 0 ≡ to = omega arith in is ∙ ap (λ (j : ℕ). oddFrom v j (to - j)) e ∙ ap (oddFrom v 0) z
 
   pub one-more : (j : ℕ) → j ≡ i - 1 → 0 < i → i ≤ to → set * 2 + v j % 2 ≡ oddFrom v j (to - j)
   unfolding oddFrom
@@ -270,27 +258,28 @@ module _ (ins : Instruction) (x which : ℕ) (l : List ℕ) (p : Progress) (comp
             at k (inr h) = past k h
         go false e (no q) = sym (ne-eqb r 0 q)
 
-  -- what the loop found and refused, from `from` on and below `to`
-  module _ (from to found refused : ℕ) (e : Effect) (ordered : from ≤ to) (short : to ≤ 64)
-      (inside : (i : ℕ) → bit which i ≡ true → (from ≤ i) × (i < to))
-      (is-found : found ≡ oddFrom (λ i. out i .value) from (to - from))
-      (is-refused : refused ≡ oddFrom (λ i. out i .types / 4) from (to - from))
-      (is-vmr : (k : ℕ) → bit (e .vmr) k ≡ pick (bit which k) (bit (found * 2 ^ from % 2 ^ 64) k) (bit (p .control .vmr) k))
+  -- what the loop found and refused below n
+  module _ (n found refused : ℕ) (e : Effect) (short : n ≤ 64)
+      (inside : (i : ℕ) → bit which i ≡ true → i < n)
+      (is-found : found ≡ oddFrom (λ i. out i .value) 0 n)
+      (is-refused : refused ≡ oddFrom (λ i. out i .types / 4) 0 n)
+      (is-vmr : (k : ℕ) → bit (e .vmr) k ≡ pick (bit which k) (bit found k) (bit (p .control .vmr) k))
       (is-vcr : e .vcr ≡ p .control .vcr)
-      (is-notes : e .notes ≡ pick (eqb (bitAnd (refused * 2 ^ from % 2 ^ 64) which) 0) 0 4)
+      (is-notes : e .notes ≡ pick (eqb (bitAnd refused which) 0) 0 4)
     where
-      moved : (set : ℕ) (v : ℕ → ℕ) → set ≡ oddFrom v from (to - from) → (k : ℕ) → bit which k ≡ true → bit (set * 2 ^ from % 2 ^ 64) k ≡ eqb (v k % 2) 1
+      moved : (set : ℕ) (v : ℕ → ℕ) → set ≡ oddFrom v 0 n → (k : ℕ) → bit which k ≡ true → bit set k ≡ eqb (v k % 2) 1
       moved set v q k g =
-          ap (λ (s : ℕ). bit (s * 2 ^ from % 2 ^ 64) k) q
-          ∙ odd-moved v from to ordered short k (inside k g .0) (inside k g .1)
+          ap (λ (s : ℕ). bit s k) q
+          ∙ odd-bit v 0 n k (inside k g)
+          ∙ ap (λ (j : ℕ). eqb (v j % 2) 1) (zero-add k)
 
       same-mask : e .vmr ≡ after 64 .vmr
       same-mask = same-bits (e .vmr) (after 64 .vmr) (λ k. is-vmr k ∙ at k (bit which k) refl ∙ sym (bits 64 k))
         where
-          at : (k : ℕ) (t : Bool) → bit which k ≡ t → pick t (bit (found * 2 ^ from % 2 ^ 64) k) (bit (p .control .vmr) k) ≡ pick (ltb k 64 && bit which k) (eqb (out k .value % 2) 1) (bit (p .control .vmr) k)
+          at : (k : ℕ) (t : Bool) → bit which k ≡ t → pick t (bit found k) (bit (p .control .vmr) k) ≡ pick (ltb k 64 && bit which k) (eqb (out k .value % 2) 1) (bit (p .control .vmr) k)
           at k true g =
               moved found (λ i. out i .value) is-found k g
-              ∙ sym (pick-true (ltb k 64 && bit which k) _ _ (ap₂ (λ (s u : Bool). s && u) (lt-ltb k 64 (let h = inside k g .1 in omega arith)) g))
+              ∙ sym (pick-true (ltb k 64 && bit which k) _ _ (ap₂ (λ (s u : Bool). s && u) (lt-ltb k 64 (let h = inside k g in omega arith)) g))
           at k false g = sym (pick-false (ltb k 64 && bit which k) _ _ (ap (λ (u : Bool). ltb k 64 && u) g ∙ none-of (ltb k 64)))
             where
               none-of : (s : Bool) → (s && false) ≡ false
@@ -298,10 +287,10 @@ module _ (ins : Instruction) (x which : ℕ) (l : List ℕ) (p : Progress) (comp
               none-of false = refl
 
       same-types : e .notes ≡ after 64 .types
-      same-types = is-notes ∙ ap (λ (t : Bool). pick t 0 4) (sym (none-is (bitAnd (refused * 2 ^ from % 2 ^ 64) which) is (λ k g. let h = inside k g .1 in omega arith))) ∙ sym (types 64)
+      same-types = is-notes ∙ ap (λ (t : Bool). pick t 0 4) (sym (none-is (bitAnd refused which) is (λ k g. let h = inside k g in omega arith))) ∙ sym (types 64)
         where
-          is : (k : ℕ) → bit (bitAnd (refused * 2 ^ from % 2 ^ 64) which) k ≡ (bit which k && refuses k)
-          is k = bit-and (refused * 2 ^ from % 2 ^ 64) which k ∙ at (bit which k) refl
+          is : (k : ℕ) → bit (bitAnd refused which) k ≡ (bit which k && refuses k)
+          is k = bit-and refused which k ∙ at (bit which k) refl
             where
               none-of : (s : Bool) → (s && false) ≡ false
               none-of true = refl
@@ -311,9 +300,9 @@ module _ (ins : Instruction) (x which : ℕ) (l : List ℕ) (p : Progress) (comp
               whole-of true = refl
               whole-of false = refl
 
-              at : (t : Bool) → bit which k ≡ t → (bit (refused * 2 ^ from % 2 ^ 64) k && t) ≡ (t && refuses k)
-              at true g = whole-of (bit (refused * 2 ^ from % 2 ^ 64) k) ∙ moved refused (λ i. out i .types / 4) is-refused k g
-              at false g = none-of (bit (refused * 2 ^ from % 2 ^ 64) k)
+              at : (t : Bool) → bit which k ≡ t → (bit refused k && t) ≡ (t && refuses k)
+              at true g = whole-of (bit refused k) ∙ moved refused (λ i. out i .types / 4) is-refused k g
+              at false g = none-of (bit refused k)
 
       pub compared : run l (effected e p) ≡ doneFor which ins x (run l p)
       unfolding doneFor

@@ -11,8 +11,8 @@ use Rattle.numbers.proofs.SetBits.{ones-alike, all-below}
 use Rattle.element.specs.declared.Out.{Out}
 use Rattle.element.specs.Receives.{resultOf, coded}
 use Rattle.element.specs.Groups.{shortWork}
-use Rattle.element.proofs.Codes.{NoneOf, shortNumbers, is-floating}
-use Rattle.machine.specs.Loops.{operandAt, Lanes, landed, laneWorked, laneStep, oneAt, shortAt, floatingAt, convertAt, workAt}
+use Rattle.element.proofs.Codes.{NoneOf, valueNumbers, is-idle}
+use Rattle.machine.specs.Loops.{operandAt, Lanes, landed, laneWorked, laneStep, oneAt, shortAt, convertAt, workAt}
 use Rattle.state.specs.Elements.{at}
 
 module _ (w : ℕ → ℕ → ℕ → ℕ → Out) (scalar : Bool) (x va vb vc : ℕ) where
@@ -67,8 +67,13 @@ module _ (code : ℕ) (exc : Bool) (field mask : ℕ) (scalar : Bool) (x va vb v
   pub short-chosen : s ≡ rising (ofOnes (laneStep (shortAt code exc mask) scalar x va vb vc) which) 64 s₀ → IsShort → Made
   short-chosen e same = by-set (shortAt code exc mask) scalar x va vb vc (workAt code exc field mask) (λ i a b c. same (bit mask i) a b c) which s₀ s e
 
-  pub floating-chosen : s ≡ rising (ofOnes (laneStep (floatingAt code exc) scalar x va vb vc) which) 64 s₀ → NoneOf code shortNumbers → (code ≡ 4 → ⊥) → (code ≡ 13 → ⊥) → (code ≡ 14 → ⊥) → Made
-  floating-chosen e r f g h = by-set (floatingAt code exc) scalar x va vb vc (workAt code exc field mask) (λ i a b c. is-floating code r f g h exc field (bit mask i) a b c) which s₀ s e
+  -- a floating work, where the number is a constant
+  pub floating-chosen : (w : ℕ → ℕ → ℕ → ℕ → Out) → s ≡ rising (ofOnes (laneStep w scalar x va vb vc) which) 64 s₀ → ((i a b c : ℕ) → w i a b c ≡ workAt code exc field mask i a b c) → Made
+  floating-chosen w e same = by-set w scalar x va vb vc (workAt code exc field mask) same which s₀ s e
+
+  -- what is neither, nor a compare or convert
+  pub idle-chosen : s ≡ rising (ofOnes (laneStep (shortAt code exc mask) scalar x va vb vc) which) 64 s₀ → NoneOf code valueNumbers → (code ≡ 4 → ⊥) → (code ≡ 13 → ⊥) → Made
+  idle-chosen e r f g = short-chosen e (λ m a b c. is-idle code r f g exc field m a b c)
 
 -- convert, which has no first operand
 pub convert-chosen : (exc : Bool) (field mask : ℕ) (scalar : Bool) (x va vb vc which : ℕ) (s₀ s : Lanes) → s ≡ rising (ofOnes (laneWorked (convertAt exc field) 0 vb vc) which) 64 s₀

@@ -1,6 +1,7 @@
 -- A whole register instruction: its steps in rising order. IOTA is one step, also at VLR 0.
 use Prim.Native.Nat.{ℕ, zero, suc}
 use Rattle.numbers.specs.Choice.{pick}
+use Rattle.numbers.specs.Rising.{rising, ofOnes}
 use Rattle.state.specs.State.{State}
 use Rattle.opcodes.specs.declared.Instruction.{Instruction}
 use Rattle.machine.specs.Kind.{kindOf, isIota}
@@ -16,6 +17,10 @@ stepOf ins scalar i r = pick (isIota (kindOf (ins .work))) (iotaStep ins scalar 
 unfoldable pub stepsBelow : ℕ → Instruction → ℕ → Run → Run
 stepsBelow zero ins scalar r = r
 stepsBelow (suc n) ins scalar r = stepOf ins scalar n (stepsBelow n ins scalar r)
+
+-- the steps of the elements of a set, in rising order
+unfoldable pub stepsIn : ℕ → Instruction → ℕ → Run → Run
+stepsIn part ins scalar r = rising (ofOnes (stepOf ins scalar) part) 64 r
 
 -- how many steps an instruction has
 abbrev pub stepCount : Instruction → ℕ → ℕ

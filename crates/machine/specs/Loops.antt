@@ -11,10 +11,10 @@ use Rattle.numbers.specs.Rising.{rising, ofOnes}
 use Rattle.state.specs.State.{placeOf}
 use Rattle.state.specs.Elements.{at}
 use Rattle.opcodes.specs.declared.Instruction.{Instruction}
-use Rattle.opcodes.specs.declared.Work.the-variants.{Convert}
+use Rattle.opcodes.specs.declared.Work.the-variants.{MultiplyF, Convert}
 use Rattle.element.specs.declared.Out.{Out}
 use Rattle.element.specs.Receives.{resultOf, coded}
-use Rattle.element.specs.Groups.{shortWork, floatingWork, compareWork}
+use Rattle.element.specs.Groups.{shortWork, totalWork, compareWork}
 use Rattle.machine.specs.declared.Effect.{Effect}
 use Rattle.machine.specs.declared.Progress.{Progress}
 use Rattle.machine.specs.Kind.{kindOf, isIota}
@@ -56,8 +56,11 @@ oneAt code exc matches i a b c = resultOf (shortWork code) exc 0 matches a b c
 abbrev pub shortAt : ℕ → Bool → ℕ → ℕ → ℕ → ℕ → ℕ → Out
 shortAt code exc mask i a b c = resultOf (shortWork code) exc 0 (bit mask i) a b c
 
-abbrev pub floatingAt : ℕ → Bool → ℕ → ℕ → ℕ → ℕ → Out
-floatingAt code exc i a b c = resultOf (floatingWork code) exc 0 false a b c
+abbrev pub totalAt : Bool → Bool → ℕ → ℕ → ℕ → ℕ → Out
+totalAt minus exc i a b c = resultOf (totalWork minus) exc 0 false a b c
+
+abbrev pub productAt : Bool → ℕ → ℕ → ℕ → ℕ → Out
+productAt exc i a b c = resultOf MultiplyF exc 0 false a b c
 
 abbrev pub convertAt : Bool → ℕ → ℕ → ℕ → ℕ → ℕ → Out
 convertAt exc conversion i a b c = resultOf Convert exc conversion false 0 b c

@@ -1,4 +1,4 @@
-// A whole register instruction, and one step of it.
+// A whole register instruction, and some of its steps.
 use crate::Effect;
 use crate::Progress;
 use crate::iota;
@@ -7,15 +7,14 @@ use crate::mask;
 use crate::run;
 use numbers::bits;
 use opcodes::Instruction;
-use state::Element;
 ghost use mathlib.Core.Path.{_≡_};
 ghost use mathlib.Core.Bool.{true, false, not, _&&_};
-ghost use Prim.Native.Nat.{ℕ, _^_, _+_, _<_, _≤_};
+ghost use Prim.Native.Nat.{ℕ, _<_, _≤_};
 ghost use Rattle.numbers.specs.Bits.{bit, chosen, OnesBelow};
 ghost use Rattle.machine.specs.Run.{run as runOf};
 ghost use Rattle.machine.specs.Kind.{kindOf, isMerge, isCompare, isIota};
 ghost use Rattle.machine.specs.Step.{registerBit, notes};
-ghost use Rattle.machine.specs.Instruction.{wholeOf, stepOf};
+ghost use Rattle.machine.specs.Instruction.{wholeOf, stepsIn};
 ghost use Rattle.machine.specs.Loops.{matched as matchedOf, effected as effectedOf, doneFor};
 
 // The bit of a register in VAER.
@@ -59,71 +58,38 @@ fn noted(instruction: Instruction, vmr: u64, vcr: u64, types: u64) -> Effect
     }
 }
 
-// The work of the elements of a set, which lies from `from` on and below `to`; or IOTA's one step. Control numbers go in and out by themselves: the record
+// The work of the elements of a set, which lies below VLR; or IOTA's one step. Control numbers go in and out by themselves: the record
 // would go through memory.
 fn effect(
     elements: &mut [u64; 1024],
     instruction: Instruction,
     scalar: u64,
     which: u64,
-    from: usize,
-    to: usize,
     vlr: u64,
     vmr: u64,
     vcr: u64,
 ) -> Effect
-    requires { ⌜ (instruction .va .0 < 16) × (instruction .vb .0 < 16) × (instruction .vc .0 < 16) × (vlr ≤ 64) × (from < 64) × (from ≤ to) × (to ≤ 64) ⌝ }
-    requires { ⌜ ((i : ℕ) → bit which i ≡ true → (from ≤ i) × (i < to)) ⌝ }
+    requires { ⌜ (instruction .va .0 < 16) × (instruction .vb .0 < 16) × (instruction .vc .0 < 16) × (vlr ≤ 64) ⌝ }
+    requires { ⌜ ((i : ℕ) → bit which i ≡ true → i < vlr) ⌝ }
     ensures { λ r. ⌜ ((p : Progress) → p .control .vlr ≡ vlr → p .control .vmr ≡ vmr → p .control .vcr ≡ vcr → runOf (now (elements .exit)) (effectedOf r p) ≡ doneFor which instruction scalar (runOf (now (elements .entry)) p)) ⌝ }
 {
     let work = instruction.work;
     if crate::is_compare(work) {
-        return mask::over(&*elements, instruction, scalar, which, from, to, vmr, vcr);
+        return mask::over(
+            &*elements,
+            instruction,
+            scalar,
+            which,
+            vlr as usize,
+            vmr,
+            vcr,
+        );
     }
     let mask = matched(vmr, instruction.mtf);
     if crate::is_iota(work) {
         return iota::iota(elements, instruction, scalar, mask, vlr, vmr);
     }
-    let types = lanes::over(elements, instruction, scalar, mask, which, to);
-    noted(instruction, vmr, vcr, types)
-}
-
-// The same of a set of one element, or of none.
-fn part(
-    elements: &mut [u64; 1024],
-    instruction: Instruction,
-    scalar: u64,
-    which: u64,
-    i: usize,
-    vlr: u64,
-    vmr: u64,
-    vcr: u64,
-) -> Effect
-    requires { ⌜ (instruction .va .0 < 16) × (instruction .vb .0 < 16) × (instruction .vc .0 < 16) × (vlr ≤ 64) × (i < 64) ⌝ }
-    requires { ⌜ ((j : ℕ) → bit which j ≡ true → (i ≤ j) × (j < i + 1)) ⌝ }
-    ensures { λ r. ⌜ ((p : Progress) → p .control .vlr ≡ vlr → p .control .vmr ≡ vmr → p .control .vcr ≡ vcr → runOf (now (elements .exit)) (effectedOf r p) ≡ doneFor which instruction scalar (runOf (now (elements .entry)) p)) ⌝ }
-{
-    let work = instruction.work;
-    if crate::is_compare(work) | crate::is_iota(work) {
-        return effect(
-            elements,
-            instruction,
-            scalar,
-            which,
-            i,
-            i + 1,
-            vlr,
-            vmr,
-            vcr,
-        );
-    }
-    let types = lanes::some(
-        elements,
-        instruction,
-        scalar,
-        matched(vmr, instruction.mtf),
-        which,
-    );
+    let types = lanes::over(elements, instruction, scalar, mask, which, vlr as usize);
     noted(instruction, vmr, vcr, types)
 }
 
@@ -157,37 +123,29 @@ pub fn whole(
     let vmr = progress.control.vmr;
     let vcr = progress.control.vcr;
     let which = operated(instruction, vlr, vmr);
-    let done = effect(
-        elements,
-        instruction,
-        scalar,
-        which,
-        0,
-        vlr as usize,
-        vlr,
-        vmr,
-        vcr,
-    );
+    let done = effect(elements, instruction, scalar, which, vlr, vmr, vcr);
     effected(progress, done)
 }
 
-// One step of an instruction: the work of its element alone, or IOTA's whole.
-pub fn step(
+// The steps of the elements of a set, in rising order: each does the work of its element alone. An IOTA has one, that of element 0.
+pub fn steps(
     elements: &mut [u64; 1024],
     progress: Progress,
     instruction: Instruction,
     scalar: u64,
-    element: Element,
+    part: u64,
 ) -> Progress
-    requires { ⌜ (instruction .va .0 < 16) × (instruction .vb .0 < 16) × (instruction .vc .0 < 16) × (progress .control .vlr ≤ 64) × (element .0 < 64) ⌝ }
-    ensures { λ r. ⌜ runOf (now (elements .exit)) r ≡ stepOf instruction scalar (element .0) (runOf (now (elements .entry)) progress) ⌝ }
+    requires { ⌜ (instruction .va .0 < 16) × (instruction .vb .0 < 16) × (instruction .vc .0 < 16) × (progress .control .vlr ≤ 64) ⌝ }
+    requires { ⌜ (isIota (kindOf (instruction .work)) ≡ true → (i : ℕ) → i < 64 → bit part i ≡ true → i ≡ 0) ⌝ }
+    ensures { λ r. ⌜ runOf (now (elements .exit)) r ≡ stepsIn part instruction scalar (runOf (now (elements .entry)) progress) ⌝ }
 {
+    if part == 0 {
+        return progress;
+    }
     let vlr = progress.control.vlr;
     let vmr = progress.control.vmr;
     let vcr = progress.control.vcr;
-    let i = element.0 as usize;
-    let all = operated(instruction, vlr, vmr);
-    let which = bits::with_bit(0, i, (all >> i) % 2);
-    let done = part(elements, instruction, scalar, which, i, vlr, vmr, vcr);
+    let which = part & operated(instruction, vlr, vmr);
+    let done = effect(elements, instruction, scalar, which, vlr, vmr, vcr);
     effected(progress, done)
 }

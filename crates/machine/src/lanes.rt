@@ -11,7 +11,7 @@ ghost use Rattle.numbers.specs.Rising.{rising, ofOnes};
 ghost use Rattle.opcodes.specs.WorkNumbers.{workNumber};
 ghost use mathlib.Core.Bool.{false};
 ghost use Rattle.machine.specs.Kind.{kindOf, isCompare};
-ghost use Rattle.machine.specs.Loops.{lanes, laneWorked, laneStep, oneAt, shortAt, floatingAt, convertAt, workAt};
+ghost use Rattle.machine.specs.Loops.{lanes, laneWorked, laneStep, oneAt, shortAt, totalAt, productAt, convertAt, workAt};
 
 // A short work of one element.
 fn short(
@@ -110,11 +110,11 @@ fn chosen(
     types
 }
 
-// Floating arithmetic of one element.
-fn arithmetic(
+// The floating sum of one element, or the difference.
+fn total(
     elements: &mut [u64; 1024],
     types: u64,
-    code: u8,
+    minus: bool,
     exc: bool,
     a: u64,
     vb: usize,
@@ -122,19 +122,19 @@ fn arithmetic(
     i: usize,
 ) -> u64
     requires { ⌜ (vb < 16) × (vc < 16) × (i < 64) ⌝ }
-    ensures { λ r. ⌜ lanes (now (elements .exit)) r ≡ laneWorked (floatingAt code exc) a vb vc i (lanes (now (elements .entry)) types) ⌝ }
+    ensures { λ r. ⌜ lanes (now (elements .exit)) r ≡ laneWorked (totalAt minus exc) a vb vc i (lanes (now (elements .entry)) types) ⌝ }
 {
     let b = elements[vb * 64 + i];
     let to = vc * 64 + i;
-    let o = element::arithmetic(code, exc, a, b, elements[to]);
+    let o = element::total(minus, exc, a, b, elements[to]);
     elements[to] = o.value;
     types | o.types
 }
 
-// The elements of a set. The work is chosen for each element, which is little beside floating arithmetic.
-fn arithmetics(
+// The elements of a set.
+fn totals(
     elements: &mut [u64; 1024],
-    code: u8,
+    minus: bool,
     exc: bool,
     scalar: bool,
     x: u64,
@@ -144,14 +144,59 @@ fn arithmetics(
     which: u64,
 ) -> u64
     requires { ⌜ (va < 16) × (vb < 16) × (vc < 16) ⌝ }
-    ensures { λ r. ⌜ lanes (now (elements .exit)) r ≡ rising (ofOnes (laneStep (floatingAt code exc) scalar x va vb vc) which) 64 (lanes (now (elements .entry)) 0) ⌝ }
+    ensures { λ r. ⌜ lanes (now (elements .exit)) r ≡ rising (ofOnes (laneStep (totalAt minus exc) scalar x va vb vc) which) 64 (lanes (now (elements .entry)) 0) ⌝ }
 {
     let mut types: u64 = 0;
     let mut left = which;
     while left != 0 {
         let i = bits::lowest(left);
         let a = operand::first(&*elements, scalar, x, va, i);
-        types = arithmetic(&mut *elements, types, code, exc, a, vb, vc, i);
+        types = total(&mut *elements, types, minus, exc, a, vb, vc, i);
+        left = bits::without_lowest(left);
+    }
+    types
+}
+
+// The floating product of one element.
+fn product(
+    elements: &mut [u64; 1024],
+    types: u64,
+    exc: bool,
+    a: u64,
+    vb: usize,
+    vc: usize,
+    i: usize,
+) -> u64
+    requires { ⌜ (vb < 16) × (vc < 16) × (i < 64) ⌝ }
+    ensures { λ r. ⌜ lanes (now (elements .exit)) r ≡ laneWorked (productAt exc) a vb vc i (lanes (now (elements .entry)) types) ⌝ }
+{
+    let b = elements[vb * 64 + i];
+    let to = vc * 64 + i;
+    let o = element::product(exc, a, b, elements[to]);
+    elements[to] = o.value;
+    types | o.types
+}
+
+// The elements of a set.
+fn products(
+    elements: &mut [u64; 1024],
+    exc: bool,
+    scalar: bool,
+    x: u64,
+    va: usize,
+    vb: usize,
+    vc: usize,
+    which: u64,
+) -> u64
+    requires { ⌜ (va < 16) × (vb < 16) × (vc < 16) ⌝ }
+    ensures { λ r. ⌜ lanes (now (elements .exit)) r ≡ rising (ofOnes (laneStep (productAt exc) scalar x va vb vc) which) 64 (lanes (now (elements .entry)) 0) ⌝ }
+{
+    let mut types: u64 = 0;
+    let mut left = which;
+    while left != 0 {
+        let i = bits::lowest(left);
+        let a = operand::first(&*elements, scalar, x, va, i);
+        types = product(&mut *elements, types, exc, a, vb, vc, i);
         left = bits::without_lowest(left);
     }
     types
@@ -247,11 +292,14 @@ pub fn some(
         8 => chosen(elements, 8, exc, mask, scalar, x, va, vb, vc, which),
         9 => chosen(elements, 9, exc, mask, scalar, x, va, vb, vc, which),
         16 => chosen(elements, 16, exc, mask, scalar, x, va, vb, vc, which),
+        10 => totals(elements, false, exc, scalar, x, va, vb, vc, which),
+        11 => totals(elements, true, exc, scalar, x, va, vb, vc, which),
+        12 => products(elements, exc, scalar, x, va, vb, vc, which),
         14 => {
             let conversion = instruction.va.0 as u64;
             conversions(elements, exc, conversion, vb, vc, which)
         }
-        _ => arithmetics(elements, code, exc, scalar, x, va, vb, vc, which),
+        _ => chosen(elements, code, exc, mask, scalar, x, va, vb, vc, which),
     }
 }
 

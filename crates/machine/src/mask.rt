@@ -1,4 +1,4 @@
-// Works that write mask bits: compares. All elements of a range are compared, which changes nothing; then a set says whose bits are
+// Works that write mask bits: compares. All elements below a length are compared, which changes nothing; then a set says whose bits are
 // replaced.
 use crate::Effect;
 use crate::Found;
@@ -9,7 +9,7 @@ use numbers::bits;
 use opcodes::Instruction;
 ghost use mathlib.Core.Path.{_≡_};
 ghost use mathlib.Core.Bool.{true};
-ghost use Prim.Native.Nat.{ℕ, _<_, _≤_, _-_, _/_};
+ghost use Prim.Native.Nat.{ℕ, _<_, _≤_, _/_};
 ghost use Rattle.numbers.specs.Bits.{bit};
 ghost use Rattle.machine.specs.declared.Progress.{Progress};
 ghost use Rattle.machine.specs.Kind.{kindOf, isCompare};
@@ -38,7 +38,7 @@ fn one(
     )
 }
 
-// The elements from `from` on and below `to`, from the highest.
+// The elements below n, from the highest.
 fn every(
     elements: &[u64; 1024],
     code: u8,
@@ -47,17 +47,16 @@ fn every(
     x: u64,
     va: usize,
     vb: usize,
-    from: usize,
-    to: usize,
+    n: usize,
 ) -> Found
-    requires { ⌜ (va < 16) × (vb < 16) × (from ≤ to) × (to ≤ 64) ⌝ }
-    ensures found { λ r. ⌜ r .found ≡ oddFrom (λ i. comparedAt code relation scalar x va vb (now (elements .entry)) i .value) from (to - from) ⌝ }
-    ensures refused { λ r. ⌜ r .refused ≡ oddFrom (λ i. comparedAt code relation scalar x va vb (now (elements .entry)) i .types / 4) from (to - from) ⌝ }
+    requires { ⌜ (va < 16) × (vb < 16) × (n ≤ 64) ⌝ }
+    ensures found { λ r. ⌜ r .found ≡ oddFrom (λ i. comparedAt code relation scalar x va vb (now (elements .entry)) i .value) 0 n ⌝ }
+    ensures refused { λ r. ⌜ r .refused ≡ oddFrom (λ i. comparedAt code relation scalar x va vb (now (elements .entry)) i .types / 4) 0 n ⌝ }
 {
     let mut found: u64 = 0;
     let mut refused: u64 = 0;
-    let mut i = to;
-    while from < i {
+    let mut i = n;
+    while 0 < i {
         i -= 1;
         let o = one(elements, code, relation, scalar, x, va, vb, i);
         found = found * 2 + o.value % 2;
@@ -74,21 +73,20 @@ fn longwords(
     x: u64,
     va: usize,
     vb: usize,
-    from: usize,
-    to: usize,
+    n: usize,
 ) -> Found
-    requires { ⌜ (va < 16) × (vb < 16) × (from ≤ to) × (to ≤ 64) ⌝ }
-    ensures found { λ r. ⌜ r .found ≡ oddFrom (λ i. comparedAt 4 relation scalar x va vb (now (elements .entry)) i .value) from (to - from) ⌝ }
-    ensures refused { λ r. ⌜ r .refused ≡ oddFrom (λ i. comparedAt 4 relation scalar x va vb (now (elements .entry)) i .types / 4) from (to - from) ⌝ }
+    requires { ⌜ (va < 16) × (vb < 16) × (n ≤ 64) ⌝ }
+    ensures found { λ r. ⌜ r .found ≡ oddFrom (λ i. comparedAt 4 relation scalar x va vb (now (elements .entry)) i .value) 0 n ⌝ }
+    ensures refused { λ r. ⌜ r .refused ≡ oddFrom (λ i. comparedAt 4 relation scalar x va vb (now (elements .entry)) i .types / 4) 0 n ⌝ }
 {
     match relation {
-        0 => every(elements, 4, 0, scalar, x, va, vb, from, to),
-        1 => every(elements, 4, 1, scalar, x, va, vb, from, to),
-        2 => every(elements, 4, 2, scalar, x, va, vb, from, to),
-        4 => every(elements, 4, 4, scalar, x, va, vb, from, to),
-        5 => every(elements, 4, 5, scalar, x, va, vb, from, to),
-        6 => every(elements, 4, 6, scalar, x, va, vb, from, to),
-        _ => every(elements, 4, relation, scalar, x, va, vb, from, to),
+        0 => every(elements, 4, 0, scalar, x, va, vb, n),
+        1 => every(elements, 4, 1, scalar, x, va, vb, n),
+        2 => every(elements, 4, 2, scalar, x, va, vb, n),
+        4 => every(elements, 4, 4, scalar, x, va, vb, n),
+        5 => every(elements, 4, 5, scalar, x, va, vb, n),
+        6 => every(elements, 4, 6, scalar, x, va, vb, n),
+        _ => every(elements, 4, relation, scalar, x, va, vb, n),
     }
 }
 
@@ -100,32 +98,30 @@ fn either(
     x: u64,
     va: usize,
     vb: usize,
-    from: usize,
-    to: usize,
+    n: usize,
 ) -> Found
-    requires { ⌜ (va < 16) × (vb < 16) × (from ≤ to) × (to ≤ 64) ⌝ }
-    ensures found { λ r. ⌜ r .found ≡ oddFrom (λ i. comparedAt code relation scalar x va vb (now (elements .entry)) i .value) from (to - from) ⌝ }
-    ensures refused { λ r. ⌜ r .refused ≡ oddFrom (λ i. comparedAt code relation scalar x va vb (now (elements .entry)) i .types / 4) from (to - from) ⌝ }
+    requires { ⌜ (va < 16) × (vb < 16) × (n ≤ 64) ⌝ }
+    ensures found { λ r. ⌜ r .found ≡ oddFrom (λ i. comparedAt code relation scalar x va vb (now (elements .entry)) i .value) 0 n ⌝ }
+    ensures refused { λ r. ⌜ r .refused ≡ oddFrom (λ i. comparedAt code relation scalar x va vb (now (elements .entry)) i .types / 4) 0 n ⌝ }
 {
     match code {
-        4 => longwords(elements, relation, scalar, x, va, vb, from, to),
-        _ => every(elements, code, relation, scalar, x, va, vb, from, to),
+        4 => longwords(elements, relation, scalar, x, va, vb, n),
+        _ => every(elements, code, relation, scalar, x, va, vb, n),
     }
 }
 
-// The compares of the elements of a set that lies from `from` on and below `to`.
+// The compares of the elements of a set that lies below n.
 pub fn over(
     elements: &[u64; 1024],
     instruction: Instruction,
     x: u64,
     which: u64,
-    from: usize,
-    to: usize,
+    n: usize,
     vmr: u64,
     vcr: u64,
 ) -> Effect
-    requires { ⌜ (instruction .va .0 < 16) × (instruction .vb .0 < 16) × (from < 64) × (from ≤ to) × (to ≤ 64) × (isCompare (kindOf (instruction .work)) ≡ true) ⌝ }
-    requires { ⌜ ((i : ℕ) → bit which i ≡ true → (from ≤ i) × (i < to)) ⌝ }
+    requires { ⌜ (instruction .va .0 < 16) × (instruction .vb .0 < 16) × (n ≤ 64) × (isCompare (kindOf (instruction .work)) ≡ true) ⌝ }
+    requires { ⌜ ((i : ℕ) → bit which i ≡ true → i < n) ⌝ }
     ensures { λ r. ⌜ ((p : Progress) → p .control .vmr ≡ vmr → p .control .vcr ≡ vcr → runOf (now (elements .entry)) (effected r p) ≡ doneFor which instruction x (runOf (now (elements .entry)) p)) ⌝ }
 {
     let work = instruction.work;
@@ -137,12 +133,11 @@ pub fn over(
         x,
         instruction.va.0 as usize,
         instruction.vb.0 as usize,
-        from,
-        to,
+        n,
     );
-    let refused = (m.refused << from) & which;
+    let refused = m.refused & which;
     Effect {
-        vmr: bits::replaced(vmr, m.found << from, which),
+        vmr: bits::replaced(vmr, m.found, which),
         vcr,
         notes: if refused == 0 { 0 } else { 4 },
     }

@@ -255,21 +255,29 @@ module _ {A : Type 0} (f : ℕ → A → A) (a : A) where
       is-out : (i : ℕ) → n ≤ i → bit which i ≡ false
       is-out i k = is i ∙ ap (λ (t : Bool). t && bit (2 ^ 64 - 1) i) (le-ltb i n k)
 
-  -- a set of one number, or of none
-  pub single : (e d : ℕ) → e < 64 → d < 2 → rising (ofOnes f (withBit 0 e d)) 64 a ≡ pick (eqb d 1) (f e a) a
+  -- a set of one number
+  pub single : (e x : ℕ) → e < 64 → bit x e ≡ true → ((j : ℕ) → j < 64 → bit x j ≡ true → j ≡ e) → rising (ofOnes f x) 64 a ≡ f e a
   unfolding rising ofOnes
-  single e d h small =
-      sym (settles g (g e a) a (suc e) 64 h (λ j k _. no-step f (withBit 0 e d) j _ (other j (λ q. omega arith))) (ap (g e) below))
-      ∙ ap (λ (t : Bool). pick t (f e a) a) (bit-replaced 0 e d small)
+  single e x h one only =
+      sym (settles g (g e a) a (suc e) 64 h (λ j k b. no-step f x j _ (other j b (λ q. omega arith))) (ap (g e) below))
+      ∙ pick-true (bit x e) (f e a) a one
     where
       g : ℕ → A → A
-      g = ofOnes f (withBit 0 e d)
+      g = ofOnes f x
 
-      other : (j : ℕ) → (j ≡ e → ⊥) → bit (withBit 0 e d) j ≡ false
-      other j q = bit-kept 0 e d small j q ∙ no-bit j
+      other : (j : ℕ) → j < 64 → (j ≡ e → ⊥) → bit x j ≡ false
+      other j b q = at (bit x j) refl
+        where
+          at : (t : Bool) → bit x j ≡ t → bit x j ≡ false
+          at true k = absurd (q (only j b k))
+          at false k = k
 
       below : a ≡ rising g e a
-      below = settles g a a 0 e (omega arith) (λ j _ k. no-step f (withBit 0 e d) j a (other j (λ q. omega arith))) (starts g a)
+      below = settles g a a 0 e (omega arith) (λ j _ k. no-step f x j a (other j (omega arith) (λ q. omega arith))) (starts g a)
+
+-- a set that is not empty has a number
+pub has-one : (x : ℕ) → 0 < x → x < 2 ^ 64 → (i : ℕ) × (i < 64) × (bit x i ≡ true)
+has-one x h small = let w = lowest 64 x h small in (trailingZeros 64 x, inside x (trailingZeros 64 x) w 64 small, bit-is x (trailingZeros 64 x) 1 (w .one))
 
 -- the next one is above the one that is taken
 pub rises : (left : ℕ) → 0 < left → left < 2 ^ 64 → lowestOne left < lowestOne (withoutBit left (lowestOne left))

@@ -1,4 +1,4 @@
--- Numbers as sets of bits: unions, sections, and sets moved up. Assumes nothing.
+-- Numbers as sets of bits: unions and sections. Assumes nothing.
 use mathlib.Core.Path.{_≡_, refl, sym, ap, ap₂, subst, _∙_}
 use mathlib.Core.Bool.{Bool, true, false, not, _&&_, _||_}
 use mathlib.Core.Logic.{_⊎_, inl, inr}
@@ -8,7 +8,6 @@ use native.Mathlib.Omega.{arith}
 use borrow.Author.Tests.{lt-ltb, le-ltb}
 use lib.Dec.{eqb, leb, ltb}
 use lib.Bits.{bitOr, bitAnd, or-shr, or-mod, and-shr, and-mod, and-lt, or-lt}
-use lib.Pow.{shl-shr, shr-shr, pow-add, pow-mono, pow-pos}
 use Rattle.numbers.specs.Choice.{pick}
 use Rattle.numbers.specs.Bits.{bit, complement}
 use Rattle.numbers.proofs.BitLaws.{digit, digit-lt, of-digit, same-digits, bit-counts, bit-above, bit-complement}
@@ -34,10 +33,6 @@ bit-and a b k =
 
 pub bit-none : (k : ℕ) → bit 0 k ≡ false
 bit-none k = ap (λ (n : ℕ). eqb (n % 2) 1) (zero-div (2 ^ k))
-
--- a set moved up by n
-pub bit-moved : (x n k : ℕ) → bit (x * 2 ^ n) (n + k) ≡ bit x k
-bit-moved x n k = ap (λ (d : ℕ). eqb (d % 2) 1) (sym (shr-shr (x * 2 ^ n) n k) ∙ ap (λ (d : ℕ). d / 2 ^ k) (shl-shr x n))
 
 -- ---- bits replaced
 module _ (x y which : ℕ) (x-word : x < 2 ^ 64) (y-word : y < 2 ^ 64) (which-word : which < 2 ^ 64) where

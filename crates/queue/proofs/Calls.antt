@@ -1,12 +1,12 @@
 -- The two calls on a queue, from what their parts give. Assumes nothing.
 use mathlib.Core.Path.{_≡_, refl, sym, ap, subst, _∙_}
 use mathlib.Core.Bool.{Bool, true, false, _&&_}
-use mathlib.Core.Logic.{inl, inr}
-use mathlib.Core.List.{List, [], _∷_}
-use Prim.Native.Nat.{ℕ, suc, _≤_, _<_}
+use mathlib.Core.List.{List}
+use Prim.Native.Nat.{ℕ, _≤_, _<_}
 use native.Mathlib.Omega.{arith}
 use borrow.Author.Tests.{leb-true}
 use lib.ListN.{length, getD}
+use lib.Seq.{take-length}
 use Rattle.numbers.specs.Choice.{pick}
 use Rattle.state.specs.declared.Control.{Control}
 use Rattle.state.specs.Answer.{Answer, done, disabled, outOfRange}
@@ -24,17 +24,12 @@ use Rattle.queue.specs.declared.Verdict.{Verdict}
 use Rattle.queue.specs.declared.Verdict.the-variants as verdict
 use Rattle.opcodes.specs.declared.Instruction.{Instruction}
 use Rattle.queue.proofs.Ignores.{Ignores}
+use Rattle.queue.proofs.Meaning.{place}
 use Rattle.queue.proofs.Claim.{permitted-proper, permitted-straight}
 use Rattle.queue.proofs.Steps.{step-of, step-position}
 use Rattle.queue.proofs.Through.{at-below, same-through}
 use Rattle.queue.proofs.RunLoop.{run-same, same-acts}
 use Rattle.queue.proofs.Accepting.{Lengths, lengths, both}
-
--- an entry stands somewhere in its list
-mem→at : (list : List ℕ) (x : ℕ) → Mem x list → (i : ℕ) × (i < length list) × (getD list i 0 ≡ x)
-mem→at [] x m = absurd m
-mem→at (y ∷ list) x (inl e) = (0, omega arith, sym e)
-mem→at (y ∷ list) x (inr m) = let w = mem→at list x m in (suc (w .0), omega arith, w .2)
 
 -- ---- an accepted queue
 passed : (b : Bool) (a r : Answer) → fine r ≡ false → fine (pick b a r) ≡ true → (b ≡ true) × (fine a ≡ true)
@@ -123,7 +118,7 @@ module _ (q : Queue) (l : List ℕ) (c : Control) (r : Reply) (asked : replyAnsw
       entry-position i h = step-position q (c .vlr) (getD list i 0) (step-of q (c .vlr) (getD list i 0) (proper .only i h))
 
       entry-of : (x : ℕ) → Mem x list → position x < size q
-      entry-of x m = let w = mem→at list x m in subst (λ (y : ℕ). position y < size q) (w .2) (entry-position (w .0) (w .1))
+      entry-of x m = let w = place x list (length list) (rw take-length m) in subst (λ (y : ℕ). position y < size q) (w .3) (entry-position (w .0) (w .1))
 
       pub order-done : Ignores → (l′ : List ℕ) (p p′ : Progress) (c′ : Control) → p ≡ progress c false → c′ ≡ ended p′
           → run l′ p′ ≡ walkOf (actBy program (q .scalars)) list (run l p)

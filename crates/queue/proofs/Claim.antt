@@ -79,7 +79,7 @@ module _ (ig : Ignores) (q : Queue) (n : ℕ) (few : n ≤ 64) where
   act-does x s =
       step-does ig n few (instructionAt q (position x)) (scalarAt q (position x)) (element x) (registers-at q (position x)) (step-element q n x s)
 
-  act-keeps-vlr : (x : ℕ) → T (isStep q n x) → (r : Run) → HasVlr n r → HasVlr n (act q x r)
+  pub act-keeps-vlr : (x : ℕ) → T (isStep q n x) → (r : Run) → HasVlr n r → HasVlr n (act q x r)
   act-keeps-vlr x s r h = act-does x s .still r h .vlr ∙ h
 
   pub run-keeps-vlr : (l : List ℕ) → ((x : ℕ) → Mem x l → T (isStep q n x)) → (r : Run) → HasVlr n r → HasVlr n (run (act q) l r)

@@ -22,6 +22,21 @@ abbrev pub Asc : List ℕ → Type 0
 Asc [] = Unit {0}
 Asc (x ∷ l) = ((y : ℕ) → Mem y l → x < y) × Asc l
 
+-- an entry of the first k, by its place
+pub place : (a : ℕ) (l : List ℕ) (k : ℕ) → Mem a (take k l) → (j : ℕ) × (j < k) × (j < length l) × (getD l j 0 ≡ a)
+place a l zero m = absurd m
+place a [] (suc k) m = absurd m
+place a (x ∷ l) (suc k) (inl e) = (0, suc-le-suc zero-le, suc-le-suc zero-le, sym e)
+place a (x ∷ l) (suc k) (inr m) =
+    let w = place a l k m in
+    (suc (w .0), suc-le-suc (w .1), suc-le-suc (w .2), w .3)
+
+at-place : (l : List ℕ) (j k : ℕ) → j < k → j < length l → Mem (getD l j 0) (take k l)
+at-place l j zero h i = absurd (not-suc-le-zero h)
+at-place [] j (suc k) h i = absurd (not-suc-le-zero i)
+at-place (x ∷ l) zero (suc k) h i = inl refl
+at-place (x ∷ l) (suc j) (suc k) h i = inr (at-place l j k (le-of-suc-le-suc h) (le-of-suc-le-suc i))
+
 module _ (before : ℕ → ℕ → Bool) (steps : List ℕ) where
   -- the entry at k of what is left is good, where `seen` has come
   record Good (seen l : List ℕ) (k : ℕ) : Type 0 where
@@ -156,21 +171,6 @@ module _ (before : ℕ → ℕ → Bool) (steps : List ℕ) where
   -- THE CHECK GIVES v EXACTLY WHERE v IS RIGHT
   pub check-iff : (l : List ℕ) (v : Verdict) → (check before steps l ≡ v) ↔ Right before steps l v
   check-iff l v = (λ e. subst (Right before steps l) e (check-right l), λ w. unique l (check before steps l) v (check-right l) w)
-
-  -- an entry of the first k, by its place
-  place : (a : ℕ) (l : List ℕ) (k : ℕ) → Mem a (take k l) → (j : ℕ) × (j < k) × (j < length l) × (getD l j 0 ≡ a)
-  place a l zero m = absurd m
-  place a [] (suc k) m = absurd m
-  place a (x ∷ l) (suc k) (inl e) = (0, suc-le-suc zero-le, suc-le-suc zero-le, sym e)
-  place a (x ∷ l) (suc k) (inr m) =
-      let w = place a l k m in
-      (suc (w .0), suc-le-suc (w .1), suc-le-suc (w .2), w .3)
-
-  at-place : (l : List ℕ) (j k : ℕ) → j < k → j < length l → Mem (getD l j 0) (take k l)
-  at-place l j zero h i = absurd (not-suc-le-zero h)
-  at-place [] j (suc k) h i = absurd (not-suc-le-zero i)
-  at-place (x ∷ l) zero (suc k) h i = inl refl
-  at-place (x ∷ l) (suc j) (suc k) h i = inr (at-place l j k (le-of-suc-le-suc h) (le-of-suc-le-suc i))
 
   -- the right answer is Permitted where the list is proper, and nowhere else
   right→proper : (l : List ℕ) → Right before steps l Permitted → Proper before steps l

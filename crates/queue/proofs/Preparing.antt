@@ -26,10 +26,11 @@ use Rattle.queue.specs.Order.{run as walkOf}
 use Rattle.queue.specs.Touch.{position}
 use Rattle.queue.specs.Reply.{replyAnswer, instructionFrom}
 use Rattle.queue.specs.Binds.{binds}
-use Rattle.queue.specs.Tables.{Below, decodedAt, readersWith, writersWith, boundTo, verdictBy, actBy, standing, Accepts}
+use Rattle.queue.specs.Tables.{Joins, Below, decodedAt, readersWith, writersWith, boundTo, verdictBy, actBy, standing, Accepts}
 use Rattle.queue.proofs.Accepting.{Lengths, position-passes, position-stops, position-last, by-standing, by-position}
 use Rattle.queue.proofs.Filling.{Filled, fill-none, fill-more}
 use Rattle.queue.proofs.Through.{at-below}
+use Rattle.queue.proofs.Stretches.{joins}
 use Rattle.queue.proofs.Sets.{built-at}
 use Rattle.queue.proofs.Noting.{Noted, noted-none, noted-more, bound-is}
 use Rattle.queue.proofs.Verdicts.{Tables, bound-earlier, tables-verdict}
@@ -164,10 +165,19 @@ module _ (q : Queue) (l : List ℕ) (c : Control) (r : Reply) (program : List In
         module _ (permitted : v ≡ verdict.Permitted) (p : Progress) (begun : p ≡ progress c false) where
           pub walk-meets : ((p .control .vlr ≤ 64) × (length (q .scalars) ≤ 16))
               × (((j : ℕ) → j < length (q .scalars) → Below (decodedAt program j))
-              × ((i : ℕ) → i < length list → position (getD list i 0) < length (q .scalars)))
+              × (((i : ℕ) → i < length list → position (getD list i 0) < length (q .scalars))
+              × Joins program (q .scalars) list (p .control .vlr)))
           walk-meets =
-              let t = through-meets q l c r (accepts .answered) passes program decoding p begun in
-              (t .0, (t .1, λ i h. rw (ok .lengths .scalars) (entry-position q l c r (accepts .answered) passes list program decoding v right permitted i h)))
+              let t = through-meets q l c r (accepts .answered) passes program decoding p begun in (
+                t .0,
+                (
+                  t .1,
+                  (
+                    λ i h. rw (ok .lengths .scalars) (entry-position q l c r (accepts .answered) passes list program decoding v right permitted i h),
+                    rw begun (joins ignores q (c .vlr) (ok .short) (ok .lengths .few) (ok .lengths .scalars) program decoding list (sym right ∙ permitted)),
+                  ),
+                ),
+              )
 
           pub listed-done : (l′ : List ℕ) (p′ : Progress) (c′ : Control) → c′ ≡ ended p′ → run l′ p′ ≡ walkOf (actBy program (q .scalars)) list (run l p) → outcome (done 0) (state l′ c′) ≡ orderedRun q list (state l c)
           listed-done l′ p′ c′ = order-done q l c r (accepts .answered) passes list program decoding v right permitted ignores l′ p p′ c′ begun

@@ -1,12 +1,11 @@
--- A loop that runs a list of steps one entry after the other: what is left of the list, run from here, gives what the whole list gives.
+-- A loop that runs a list of steps, some entries at a time: what is left of the list, run from here, gives what the whole list gives.
 -- Assumes nothing.
 use mathlib.Core.Path.{_≡_, refl, sym, ap, _∙_, subst}
 use mathlib.Core.Logic.{inl, inr}
-use mathlib.Core.List.{List, [], _∷_}
-use Prim.Native.Nat.{ℕ, suc, _+_, _<_, _≤_, zero-le}
-use native.Mathlib.Numerals.{add-one}
-use lib.ListN.{length, getD, drop, drop-of-length-le}
-use lib.Seq.{drop-cons}
+use mathlib.Core.List.{List, [], _∷_, _++_}
+use Prim.Native.Nat.{ℕ, _+_, _<_, _≤_, zero-le}
+use lib.ListN.{length, getD, take, drop, take-append-drop, drop-of-length-le}
+use lib.Seq.{drop-drop}
 use Rattle.opcodes.specs.declared.Instruction.{Instruction}
 use Rattle.machine.specs.Run.{Run}
 use Rattle.machine.specs.Instruction.{stepOf}
@@ -16,6 +15,11 @@ use Rattle.queue.specs.Touch.{position, element, act}
 use Rattle.queue.specs.Tables.{decodedAt, actBy}
 use Rattle.queue.proofs.Through.{vlrOf, step-vlr}
 
+pub run-append : {S : Type 0} (f : ℕ → S → S) (xs ys : List ℕ) (r : S) → run f (xs ++ ys) r ≡ run f ys (run f xs r)
+unfolding run
+run-append f [] ys r = refl
+run-append f (x ∷ xs) ys r = run-append f xs ys (f x r)
+
 module _ {S : Type 0} (does : ℕ → S → S) (list : List ℕ) (s₀ : S) where
   pub record RunInv (s : S) (i : ℕ) : Type 0 where
     pub inside : i ≤ length list
@@ -24,12 +28,16 @@ module _ {S : Type 0} (does : ℕ → S → S) (list : List ℕ) (s₀ : S) wher
   pub run-start : RunInv s₀ 0
   run-start = record { inside = zero-le; same = refl }
 
-  pub run-on : (s : S) (i : ℕ) → RunInv s i → i < length list → (s′ : S) → s′ ≡ does (getD list i 0) s → RunInv s′ (i + 1)
-  unfolding run
-  run-on s i inv h s′ e = subst (RunInv s′) (sym (add-one i)) (record {
+  -- n entries more
+  pub run-on : (s : S) (i n : ℕ) → RunInv s i → i + n ≤ length list → (s′ : S) → s′ ≡ run does (take n (drop i list)) s → RunInv s′ (i + n)
+  run-on s i n inv h s′ e = record {
     inside = h;
-    same = inv .same ∙ ap (λ (l : List ℕ). run does l s) (drop-cons list i 0 h) ∙ ap (run does (drop (suc i) list)) (sym e);
-  })
+    same = inv .same
+        ∙ ap (λ (l : List ℕ). run does l s) (sym (take-append-drop n (drop i list)))
+        ∙ run-append does (take n (drop i list)) (drop n (drop i list)) s
+        ∙ ap (λ (l : List ℕ). run does l (run does (take n (drop i list)) s)) (drop-drop n i list)
+        ∙ ap (run does (drop (i + n) list)) (sym e);
+  }
 
   pub run-end : (s : S) (i : ℕ) → RunInv s i → length list ≤ i → s ≡ run does list s₀
   unfolding run
@@ -41,15 +49,12 @@ unfolding run
 run-same f g [] e s = refl
 run-same f g (x ∷ l) e s = ap (run f l) (e x (inl refl) s) ∙ run-same f g l (λ y m. e y (inr m)) (g x s)
 
--- ---- the entry of a decoded queue
-module _ (program : List Instruction) (scalars : List ℕ) (x : ℕ) (r r′ : Run)
-    (done : r′ ≡ stepOf (decodedAt program (position x)) (getD scalars (position x) 0) (element x) r) where
-  pub acts : r′ ≡ actBy program scalars x r
-  unfolding actBy
-  acts = done
-
-  pub act-short : vlrOf r ≤ 64 → vlrOf r′ ≤ 64
-  act-short h = rw (ap vlrOf done ∙ step-vlr (decodedAt program (position x)) (getD scalars (position x) 0) (element x) r) h
+-- the steps of a decoded queue leave VLR as it was
+pub run-vlr : (program : List Instruction) (scalars l : List ℕ) (r : Run) → vlrOf (run (actBy program scalars) l r) ≡ vlrOf r
+unfolding run actBy
+run-vlr program scalars [] r = refl
+run-vlr program scalars (x ∷ l) r =
+    run-vlr program scalars l (actBy program scalars x r) ∙ step-vlr (decodedAt program (position x)) (getD scalars (position x) 0) (element x) r
 
 -- a decoded queue's steps are the queue's
 pub same-acts : (q : Queue) (program : List Instruction) → ((k : ℕ) → k < size q → decodedAt program k ≡ instructionAt q k)

@@ -3,12 +3,15 @@
 use mathlib.Core.Path.{_≡_, refl, sym, ap, ap₂, _∙_, subst}
 use mathlib.Core.Bool.{Bool, true, false}
 use mathlib.Core.List.{List, [], _∷_, _++_}
-use Prim.Native.Nat.{ℕ, zero, suc, _+_, _-_, _*_, _<_, _≤_}
+use Prim.Native.Nat.{ℕ, zero, suc, _+_, _*_, _<_, _≤_}
 use native.Mathlib.Nat.{zero-add, add-zero, suc-add}
 use native.Mathlib.Numerals.{add-one}
 use native.Mathlib.Omega.{arith}
 use lib.Dec.{T}
 use Rattle.numbers.specs.Choice.{pick}
+use Rattle.numbers.specs.Rising.{rising}
+use Rattle.numbers.proofs.Rising.{settles}
+use Rattle.numbers.proofs.Tests.{pick-true, pick-false}
 use Rattle.machine.specs.Kind.{kindOf, isIota}
 use Rattle.machine.specs.Run.{Run}
 use Rattle.machine.specs.Instruction.{stepOf, stepsBelow, stepCount, wholeOf}
@@ -16,12 +19,8 @@ use Rattle.queue.specs.Queue.{Queue, size, instructionAt, scalarAt, stra
 use Rattle.queue.specs.Order.{Mem, run}
 use Rattle.queue.specs.Touch.{position, element, isStep, passing, stepsOf, act}
 use Rattle.queue.proofs.Places.{true-T, false-T}
+use Rattle.queue.proofs.RunLoop.{run-append}
 use Rattle.queue.proofs.Steps.{passing→, step-element, a-step}
-
-pub run-append : (f : ℕ → Run → Run) (xs ys : List ℕ) (r : Run) → run f (xs ++ ys) r ≡ run f ys (run f xs r)
-unfolding run
-run-append f [] ys r = refl
-run-append f (x ∷ xs) ys r = run-append f xs ys (f x r)
 
 module _ (p : ℕ → Bool) where
   -- the first a numbers, and the b after them
@@ -37,18 +36,16 @@ module _ (p : ℕ → Bool) where
       out true l m = refl
       out false l m = refl
 
-  none-passing : (i n : ℕ) → ((k : ℕ) → i ≤ k → k < i + n → p k ≡ false) → passing p i n ≡ []
+  -- one number more
+  passing-last : (i n : ℕ) → passing p i (suc n) ≡ passing p i n ++ pick (p (i + n)) ((i + n) ∷ []) []
   unfolding passing
-  none-passing i zero f = refl
-  none-passing i (suc n) f =
-      ap (λ (t : Bool). pick t (i ∷ passing p (suc i) n) (passing p (suc i) n)) (f i (omega arith) (omega arith))
-      ∙ none-passing (suc i) n (λ k h g. f k (omega arith) (omega arith))
+  passing-last i n = ap (passing p i) (sym (add-one n)) ∙ passing-append i n 1
 
-  one-passing : (i : ℕ) → p i ≡ true → passing p i 1 ≡ i ∷ []
-  unfolding passing
-  one-passing i e = ap (λ (t : Bool). pick t (i ∷ []) []) e
+-- the step of element e of position k, if its number passes the test
+abbrev pub stepIf : Queue → (ℕ → Bool) → ℕ → ℕ → Run → Run
+stepIf q p k e r = pick (p (k * 64 + e)) (stepOf (instructionAt q k) (scalarAt q k) e r) r
 
-module _ (q : Queue) (vlr : ℕ) (k : ℕ) (h : k < size q) where
+module _ (q : Queue) (k : ℕ) where
   -- the numbers of position k
   at-position : (e : ℕ) → e < 64 → position (k * 64 + e) ≡ k
   at-position e b = omega arith
@@ -60,60 +57,79 @@ module _ (q : Queue) (vlr : ℕ) (k : ℕ) (h : k < size q) where
   unfolding act
   acts e b r = ap₂ (λ (x y : ℕ). stepOf (instructionAt q x) (scalarAt q x) y r) (at-position e b) (at-element e b)
 
+  -- a step of position k is one of its elements below the count
+  pub counted : (vlr e : ℕ) → e < 64 → T (isStep q vlr (k * 64 + e)) → e < stepCount (instructionAt q k) vlr
+  counted vlr e b t =
+      subst (λ (x : ℕ). x < stepCount (instructionAt q k) vlr) (at-element e b)
+      (subst (λ (x : ℕ). element (k * 64 + e) < stepCount (instructionAt q x) vlr) (at-position e b) (step-element q vlr (k * 64 + e) t))
+
+  module _ (p : ℕ → Bool) where
+    -- those of the first c of them that pass a test
+    some-steps : (c : ℕ) → c ≤ 64 → (r : Run) → run (act q) (passing p (k * 64) c) r ≡ rising (stepIf q p k) c r
+    unfolding run passing rising
+    some-steps zero b r = refl
+    some-steps (suc c) b r =
+        ap (λ (l : List ℕ). run (act q) l r) (passing-last p (k * 64) c)
+        ∙ run-append (act q) (passing p (k * 64) c) (pick (p (k * 64 + c)) ((k * 64 + c) ∷ []) []) r
+        ∙ last (p (k * 64 + c)) (run (act q) (passing p (k * 64) c) r)
+        ∙ ap (stepIf q p k c) (some-steps c (omega arith) r)
+      where
+        last : (t : Bool) (s : Run) → run (act q) (pick t ((k * 64 + c) ∷ []) []) s ≡ pick t (stepOf (instructionAt q k) (scalarAt q k) c s) s
+        last true s = acts c b s
+        last false s = refl
+
+    -- the steps that pass a test, of one position more
+    pub next-position : (r : Run) → run (act q) (passing p 0 (suc k * 64)) r ≡ rising (stepIf q p k) 64 (run (act q) (passing p 0 (k * 64)) r)
+    next-position r =
+        ap (λ (l : List ℕ). run (act q) l r)
+        (ap (passing p 0) more
+        ∙ passing-append p 0 (k * 64) 64
+        ∙ ap (λ (n : ℕ). passing p 0 (k * 64) ++ passing p n 64) (zero-add (k * 64)))
+        ∙ run-append (act q) (passing p 0 (k * 64)) (passing p (k * 64) 64) r
+        ∙ some-steps 64 (omega arith) (run (act q) (passing p 0 (k * 64)) r)
+      where
+        more : suc k * 64 ≡ k * 64 + 64
+        more = omega arith
+
+module _ (q : Queue) (vlr : ℕ) (k : ℕ) (h : k < size q) where
   passes : (e : ℕ) → e < 64 → e < stepCount (instructionAt q k) vlr → isStep q vlr (k * 64 + e) ≡ true
   passes e b c =
       true-T _
-      (a-step q vlr (k * 64 + e) (rw (at-position e b) h)
-      (rw (at-element e b) (subst (λ (x : ℕ). e < stepCount (instructionAt q x) vlr) (sym (at-position e b)) c)))
+      (a-step q vlr (k * 64 + e) (rw (at-position q k e b) h)
+      (rw (at-element q k e b) (subst (λ (x : ℕ). e < stepCount (instructionAt q x) vlr) (sym (at-position q k e b)) c)))
 
   fails : (e : ℕ) → e < 64 → stepCount (instructionAt q k) vlr ≤ e → isStep q vlr (k * 64 + e) ≡ false
-  fails e b c =
-      false-T _ (λ t. no-step (subst (λ (x : ℕ). x < stepCount (instructionAt q k) vlr) (at-element e b) (subst (λ (x : ℕ). element (k * 64 + e) < stepCount (instructionAt q x) vlr) (at-position e b) (step-element q vlr (k * 64 + e) t))))
+  fails e b c = false-T _ (λ t. no-step (counted q k vlr e b t))
     where
       no-step : e < stepCount (instructionAt q k) vlr → ⊥
       no-step z = omega arith
 
   -- the first c of them
   first-steps : (c : ℕ) → c ≤ 64 → c ≤ stepCount (instructionAt q k) vlr → (r : Run)
-      → run (act q) (passing (isStep q vlr) (k * 64) c) r ≡ stepsBelow c (instructionAt q k) (scalarAt q k) r
-  unfolding run passing stepsBelow
+      → rising (stepIf q (isStep q vlr) k) c r ≡ stepsBelow c (instructionAt q k) (scalarAt q k) r
+  unfolding rising stepsBelow
   first-steps zero b s r = refl
   first-steps (suc c) b s r =
-      ap (λ (l : List ℕ). run (act q) l r)
-      (ap (passing (isStep q vlr) (k * 64)) (sym (add-one c))
-      ∙ passing-append (isStep q vlr) (k * 64) c 1
-      ∙ ap (λ (l : List ℕ). passing (isStep q vlr) (k * 64) c ++ l) (one-passing (isStep q vlr) (k * 64 + c) (passes c (omega arith) (omega arith))))
-      ∙ run-append (act q) (passing (isStep q vlr) (k * 64) c) ((k * 64 + c) ∷ []) r
-      ∙ acts c (omega arith) (run (act q) (passing (isStep q vlr) (k * 64) c) r)
+      pick-true (isStep q vlr (k * 64 + c)) _ _ (passes c (omega arith) (omega arith))
       ∙ ap (stepOf (instructionAt q k) (scalarAt q k) c) (first-steps c (omega arith) (omega arith) r)
 
   -- all of them: the instruction whole
-  whole-steps : vlr ≤ 64 → (r : Run) → r .progress .control .vlr ≡ vlr
-      → run (act q) (passing (isStep q vlr) (k * 64) 64) r ≡ wholeOf (instructionAt q k) (scalarAt q k) r
-  unfolding wholeOf run
+  whole-steps : vlr ≤ 64 → (r : Run) → r .progress .control .vlr ≡ vlr → rising (stepIf q (isStep q vlr) k) 64 r ≡ wholeOf (instructionAt q k) (scalarAt q k) r
+  unfolding wholeOf
   whole-steps few r e =
-      ap (λ (l : List ℕ). run (act q) l r)
-      (ap (passing (isStep q vlr) (k * 64)) (split (stepCount (instructionAt q k) vlr) most)
-      ∙ passing-append (isStep q vlr) (k * 64) (stepCount (instructionAt q k) vlr) (64 - stepCount (instructionAt q k) vlr)
-      ∙ ap (λ (l : List ℕ). passing (isStep q vlr) (k * 64) (stepCount (instructionAt q k) vlr) ++ l)
-      (none-passing (isStep q vlr) (k * 64 + stepCount (instructionAt q k) vlr) (64 - stepCount (instructionAt q k) vlr) (rest (stepCount (instructionAt q k) vlr) most fails)))
-      ∙ run-append (act q) (passing (isStep q vlr) (k * 64) (stepCount (instructionAt q k) vlr)) [] r
-      ∙ first-steps (stepCount (instructionAt q k) vlr) most (omega arith) r
+      sym (settles (stepIf q (isStep q vlr) k) (rising (stepIf q (isStep q vlr) k) count r) r count 64 most (λ j l b. pick-false (isStep q vlr (k * 64 + j)) _ _ (fails j b l)) refl)
+      ∙ first-steps count most (omega arith) r
       ∙ ap (λ (n : ℕ). stepsBelow (stepCount (instructionAt q k) n) (instructionAt q k) (scalarAt q k) r) (sym e)
     where
+      count : ℕ
+      count = stepCount (instructionAt q k) vlr
+
       few-steps : (t : Bool) → pick t 1 vlr ≤ 64
       few-steps true = omega arith
       few-steps false = few
 
       most : stepCount (instructionAt q k) vlr ≤ 64
       most = few-steps (isIota (kindOf (instructionAt q k .work)))
-
-      split : (c : ℕ) → c ≤ 64 → 64 ≡ c + (64 - c)
-      split c b = omega arith
-
-      rest : (c : ℕ) → c ≤ 64 → ((e : ℕ) → e < 64 → c ≤ e → isStep q vlr (k * 64 + e) ≡ false)
-          → (x : ℕ) → k * 64 + c ≤ x → x < k * 64 + c + (64 - c) → isStep q vlr x ≡ false
-      rest c b f x l g = subst (λ (y : ℕ). isStep q vlr y ≡ false) (omega arith) (f (x - k * 64) (omega arith) (omega arith))
 
 -- `keeps`: no step writes VLR
 module _ (q : Queue) (vlr : ℕ) (few : vlr ≤ 64) (r : Run)
@@ -123,16 +139,9 @@ module _ (q : Queue) (vlr : ℕ) (few : vlr ≤ 64) (r : Run)
     unfolding run passing straight
     positions-straight zero b = refl
     positions-straight (suc m) b =
-        ap (λ (l : List ℕ). run (act q) l r)
-        (ap (passing (isStep q vlr) 0) more
-        ∙ passing-append (isStep q vlr) 0 (m * 64) 64
-        ∙ ap (λ (n : ℕ). passing (isStep q vlr) 0 (m * 64) ++ passing (isStep q vlr) n 64) (zero-add (m * 64)))
-        ∙ run-append (act q) (passing (isStep q vlr) 0 (m * 64)) (passing (isStep q vlr) (m * 64) 64) r
+        next-position q m (isStep q vlr) r
         ∙ whole-steps q vlr m b few (run (act q) (passing (isStep q vlr) 0 (m * 64)) r) (keeps (passing (isStep q vlr) 0 (m * 64)) (λ x i. passing→ (isStep q vlr) x 0 (m * 64) i .2))
         ∙ ap (wholeOf (instructionAt q m) (scalarAt q m)) (positions-straight m (omega arith))
-      where
-        more : suc m * 64 ≡ m * 64 + 64
-        more = omega arith
 
     -- THE QUEUE'S OWN ORDER
     pub steps-straight : run (act q) (stepsOf q vlr) r ≡ straight q (size q) r

@@ -4,10 +4,12 @@ use mathlib.Core.Bool.{Bool, true, false}
 use mathlib.Core.List.{List}
 use Prim.Native.Nat.{ℕ, zero, suc, _+_, _<_, _≤_}
 use native.Mathlib.Omega.{arith}
-use native.Mathlib.Numerals.{add-one}
 use lib.Dec.{lit<}
 use lib.ListN.{length, getD}
 use Rattle.numbers.specs.Choice.{pick}
+use Rattle.numbers.specs.Bits.{bit}
+use Rattle.numbers.specs.Rising.{rising, ofOnes}
+use Rattle.numbers.proofs.Rising.{starts, settles, carries}
 use Rattle.opcodes.specs.declared.Instruction.{Instruction}
 use Rattle.opcodes.specs.declared.Decoded.{Decoded}
 use Rattle.opcodes.specs.declared.Decoded.the-variants as decoded
@@ -19,7 +21,7 @@ use Rattle.machine.specs.Kind.{kindOf, isCompare, isIota}
 use Rattle.machine.specs.Run.{Run, run, gathered}
 use Rattle.machine.specs.Step.{operated, received, written, worked, elementStep}
 use Rattle.machine.specs.Iota.{iotaStep}
-use Rattle.machine.specs.Instruction.{stepOf, stepsBelow, stepCount, wholeOf}
+use Rattle.machine.specs.Instruction.{stepOf, stepsBelow, stepsIn, stepCount, wholeOf}
 use Rattle.queue.specs.Queue.{Queue, size, instructionOr, instructionAt, scalarAt, straight}
 use Rattle.queue.specs.Reply.{instructionFrom}
 use Rattle.queue.specs.Tables.{Below, decodedAt, throughBy}
@@ -69,24 +71,23 @@ pub whole-vlr : (ins : Instruction) (scalar : ℕ) (r : Run) → vlrOf (wholeOf 
 unfolding wholeOf
 whole-vlr ins scalar r = steps-vlr (stepCount ins (vlrOf r)) ins scalar r
 
--- ---- the loop
-module _ (program : List Instruction) (scalars : List ℕ) (r₀ : Run) where
-  pub turns : (k : ℕ) (r r′ : Run) → r ≡ throughBy program scalars k r₀ → r′ ≡ wholeOf (decodedAt program k) (getD scalars k 0) r → r′ ≡ throughBy program scalars (k + 1) r₀
-  unfolding throughBy
-  turns k r r′ e g = g ∙ ap (wholeOf (decodedAt program k) (getD scalars k 0)) e ∙ sym (ap (λ (n : ℕ). throughBy program scalars n r₀) (add-one k))
+pub stepsIn-vlr : (part : ℕ) (ins : Instruction) (scalar : ℕ) (r : Run) → vlrOf (stepsIn part ins scalar r) ≡ vlrOf r
+unfolding stepsIn ofOnes
+stepsIn-vlr part ins scalar r = carries vlrOf (ofOnes (stepOf ins scalar) part) (λ _ v. v) 64 r (λ i x _. pick-vlr (bit part i) (stepOf ins scalar i x) x x (step-vlr ins scalar i x) refl) ∙ still 64
+  where
+    still : (n : ℕ) → rising (λ _ v. v) n (vlrOf r) ≡ vlrOf r
+    still n = sym (settles (λ _ v. v) (vlrOf r) (vlrOf r) 0 n (omega arith) (λ j _ _. refl) (starts (λ _ v. v) (vlrOf r)))
 
-  pub ends : (k : ℕ) (r : Run) → r ≡ throughBy program scalars k r₀ → k ≤ length scalars → length scalars ≤ k → r ≡ throughBy program scalars (length scalars) r₀
-  ends k r e h g = e ∙ ap (λ (n : ℕ). throughBy program scalars n r₀) same
-    where
-      same : k ≡ length scalars
-      same = omega arith
+-- ---- the loops
+pub steps-short : (part : ℕ) (i : Instruction) (scalar : ℕ) (r r′ : Run) → vlrOf r ≤ 64 → r′ ≡ stepsIn part i scalar r → vlrOf r′ ≤ 64
+steps-short part i scalar r r′ h e = rw (ap vlrOf e ∙ stepsIn-vlr part i scalar r) h
 
 pub whole-short : (i : Instruction) (scalar : ℕ) (r r′ : Run) → vlrOf r ≤ 64 → r′ ≡ wholeOf i scalar r → vlrOf r′ ≤ 64
 whole-short i scalar r r′ h e = rw (ap vlrOf e ∙ whole-vlr i scalar r) h
 
 -- ---- a decoded queue does what the queue does
 pub same-through : (q : Queue) (program : List Instruction) → ((k : ℕ) → k < size q → decodedAt program k ≡ instructionAt q k) → (n : ℕ) → n ≤ size q → (r : Run) → throughBy program (q .scalars) n r ≡ straight q n r
-unfolding throughBy straight
+unfolding rising straight
 same-through q program same zero h r = refl
 same-through q program same (suc n) h r =
     ap (λ (i : Instruction). wholeOf i (scalarAt q n) (throughBy program (q .scalars) n r)) (same n (omega arith))

@@ -11,7 +11,7 @@ is-compare-requires c κs = search needs
 
 over-requires : tie.Need-over-requires
 unfolding kindOf
-over-requires c κs = ((search needs, search needs, search needs, search needs, search needs, search needs), c .before .before .before .pre .1)
+over-requires c κs = ((search needs, search needs, search needs, search needs), c .before .before .before .pre .1)
 
 returns : tie.Need-returns
 returns c = λ p e f g. c .over .ensures p f g

@@ -9,7 +9,7 @@ operated-requires : tie.Need-operated-requires
 operated-requires c κs = search needs
 
 effect-requires : tie.Need-effect-requires
-effect-requires c κs = ((search needs, search needs, search needs, search needs, search needs, search needs, search needs), below _ _ _ (c .before .operated .ensures))
+effect-requires c κs = ((search needs, search needs, search needs, search needs), below _ _ _ (c .before .operated .ensures))
 
 effected-requires : tie.Need-effected-requires
 effected-requires c κs = search needs

@@ -1,7 +1,7 @@
 use mathlib.Core.Path.{refl}
 use Rattle.element.specs.Receives.{resultOf, coded}
 use Rattle.element.specs.Groups.{shortWork}
-use Rattle.machine.proofs.LaneLoops.{short-chosen, floating-chosen, convert-chosen}
+use Rattle.machine.proofs.LaneLoops.{short-chosen, floating-chosen, idle-chosen, convert-chosen}
 use Rattle.machine.proofs.WorkKinds.{not-compare}
 use borrow.Author.Needs.{needs}
 use Rattle.machine.proofs.lanes.some.Statement.{statement}
@@ -46,14 +46,23 @@ chosen-requires-8 c κs = search needs
 chosen-requires-9 : tie.Need-chosen-requires-9
 chosen-requires-9 c κs = search needs
 
+totals-requires : tie.Need-totals-requires
+totals-requires c κs = search needs
+
+totals-requires-2 : tie.Need-totals-requires-2
+totals-requires-2 c κs = search needs
+
+products-requires : tie.Need-products-requires
+products-requires c κs = search needs
+
 cast-conversion : tie.Need-cast-conversion
 cast-conversion c = search needs
 
 conversions-requires : tie.Need-conversions-requires
 conversions-requires c κs = search needs
 
-arithmetics-requires : tie.Need-arithmetics-requires
-arithmetics-requires c κs = search needs
+chosen-requires-10 : tie.Need-chosen-requires-10
+chosen-requires-10 c κs = search needs
 
 returns : tie.Need-returns
 unfolding resultOf coded shortWork
@@ -92,11 +101,23 @@ unfolding resultOf coded shortWork
 returns-9 c = rw (← (c .before .before .before .before .before .before .code .ensures), c .before .before .match .keys9) (short-chosen 16 (c .before .before .before .before .before .before .before .args .instruction .exc) (c .before .before .before .before .before .before .before .args .instruction .va .0) (c .before .before .before .before .before .before .before .args .mask) _ _ _ _ _ _ _ _ (c .chosen9 .ensures) (λ m a b d. refl))
 
 returns-10 : tie.Need-returns-10
-returns-10 c = rw (← (c .before .before .before .before .before .before .before .code .ensures), c .before .before .before .match .keys10) (convert-chosen _ _ _ _ _ _ _ _ _ _ _ (c .conversions .ensures))
+unfolding resultOf coded
+returns-10 c = rw (← (c .before .before .before .before .before .before .code .ensures), c .before .before .match .keys10) (floating-chosen 10 (c .before .before .before .before .before .before .before .args .instruction .exc) (c .before .before .before .before .before .before .before .args .instruction .va .0) (c .before .before .before .before .before .before .before .args .mask) _ _ _ _ _ _ _ _ _ (c .totals .ensures) (λ i a b d. refl))
 
 returns-11 : tie.Need-returns-11
-returns-11 c = let n = not-compare _ (c .before .before .before .before .before .before .before .pre .3) in
-    rw (← (c .before .before .before .before .before .before .code .ensures)) (floating-chosen _ (c .before .before .before .before .before .before .before .args .instruction .exc) (c .before .before .before .before .before .before .before .args .instruction .va .0) (c .before .before .before .before .before .before .before .args .mask) _ _ _ _ _ _ _ _ (c .arithmetics .ensures) (c .before .before .match .rest .0) (rw (c .before .before .before .before .before .before .code .ensures) (n .0)) (rw (c .before .before .before .before .before .before .code .ensures) (n .1)) (c .before .before .match .rest .1))
+unfolding resultOf coded
+returns-11 c = rw (← (c .before .before .before .before .before .before .code .ensures), c .before .before .match .keys11) (floating-chosen 11 (c .before .before .before .before .before .before .before .args .instruction .exc) (c .before .before .before .before .before .before .before .args .instruction .va .0) (c .before .before .before .before .before .before .before .args .mask) _ _ _ _ _ _ _ _ _ (c .totals2 .ensures) (λ i a b d. refl))
+
+returns-12 : tie.Need-returns-12
+unfolding resultOf coded
+returns-12 c = rw (← (c .before .before .before .before .before .before .code .ensures), c .before .before .match .keys12) (floating-chosen 12 (c .before .before .before .before .before .before .before .args .instruction .exc) (c .before .before .before .before .before .before .before .args .instruction .va .0) (c .before .before .before .before .before .before .before .args .mask) _ _ _ _ _ _ _ _ _ (c .products .ensures) (λ i a b d. refl))
+
+returns-13 : tie.Need-returns-13
+returns-13 c = rw (← (c .before .before .before .before .before .before .before .code .ensures), c .before .before .before .match .keys13) (convert-chosen _ _ _ _ _ _ _ _ _ _ _ (c .conversions .ensures))
+
+returns-14 : tie.Need-returns-14
+returns-14 c = let n = not-compare _ (c .before .before .before .before .before .before .before .pre .3) in
+    rw (← (c .before .before .before .before .before .before .code .ensures)) (idle-chosen _ (c .before .before .before .before .before .before .before .args .instruction .exc) (c .before .before .before .before .before .before .before .args .instruction .va .0) (c .before .before .before .before .before .before .before .args .mask) _ _ _ _ _ _ _ _ (c .chosen10 .ensures) (c .before .before .match .rest) (rw (c .before .before .before .before .before .before .code .ensures) (n .0)) (rw (c .before .before .before .before .before .before .code .ensures) (n .1)))
 
 pub some-spec : {M : Type 1} → statement M
 some-spec =
@@ -115,9 +136,12 @@ some-spec =
     chosen-requires-7
     chosen-requires-8
     chosen-requires-9
+    totals-requires
+    totals-requires-2
+    products-requires
     cast-conversion
     conversions-requires
-    arithmetics-requires
+    chosen-requires-10
     returns
     returns-2
     returns-3
@@ -128,4 +152,7 @@ some-spec =
     returns-8
     returns-9
     returns-10
-    returns-11)
+    returns-11
+    returns-12
+    returns-13
+    returns-14)

@@ -8,10 +8,10 @@ use Rattle.machine.proofs.mask.every.Statement.{statement}
 use Rattle.machine.proofs.mask.every.Tie as tie
 
 abbrev Inv-loop : tie.InvT-loop
-Inv-loop elements code relation scalar x va vb from to found₀ refused₀ i₀ found refused i = (from ≤ i) × (i ≤ to) × (found ≡ oddFrom (λ k. comparedAt code relation scalar x va vb elements k .value) i (to - i)) × (refused ≡ oddFrom (λ k. comparedAt code relation scalar x va vb elements k .types / 4) i (to - i))
+Inv-loop elements code relation scalar x va vb n found₀ refused₀ i₀ found refused i = (i ≤ n) × (found ≡ oddFrom (λ k. comparedAt code relation scalar x va vb elements k .value) i (n - i)) × (refused ≡ oddFrom (λ k. comparedAt code relation scalar x va vb elements k .types / 4) i (n - i))
 
 abbrev μ-loop : tie.MeasureT-loop
-μ-loop elements code relation scalar x va vb from to found₀ refused₀ i₀ found refused i = i
+μ-loop elements code relation scalar x va vb n found₀ refused₀ i₀ found refused i = i
 
 loop-holds : tie.Need-loop-holds Inv-loop μ-loop
 loop-holds c = search (nothing, needs)
@@ -23,16 +23,16 @@ one-requires : tie.Need-one-requires Inv-loop μ-loop
 one-requires c κs = search needs
 
 mul-found : tie.Need-mul-found Inv-loop μ-loop
-mul-found c = let r = room _ _ _ _ (c .before .before .loop .inv .2) (omega arith) (omega arith) in search needs
+mul-found c = let r = room _ _ _ _ (c .before .before .loop .inv .1) (omega arith) (omega arith) in search needs
 
 add-found : tie.Need-add-found Inv-loop μ-loop
-add-found c = let r = room _ _ _ _ (c .before .before .before .loop .inv .2) (omega arith) (omega arith) in search needs
+add-found c = let r = room _ _ _ _ (c .before .before .before .loop .inv .1) (omega arith) (omega arith) in search needs
 
 mul-refused : tie.Need-mul-refused Inv-loop μ-loop
-mul-refused c = let r = room _ _ _ _ (c .before .before .before .loop .inv .3) (omega arith) (omega arith) in search needs
+mul-refused c = let r = room _ _ _ _ (c .before .before .before .loop .inv .2) (omega arith) (omega arith) in search needs
 
 add-refused : tie.Need-add-refused Inv-loop μ-loop
-add-refused c = let r = room _ _ _ _ (c .before .before .before .before .loop .inv .3) (omega arith) (omega arith) in search needs
+add-refused c = let r = room _ _ _ _ (c .before .before .before .before .loop .inv .2) (omega arith) (omega arith) in search needs
 
 loop-less : tie.Need-loop-less Inv-loop μ-loop
 loop-less c = search needs
@@ -40,9 +40,8 @@ loop-less c = search needs
 loop-again : tie.Need-loop-again Inv-loop μ-loop
 loop-again c = (
   search needs,
-  search needs,
+  rw (c .before .before .one .ensures) (one-more _ _ _ _ (c .before .before .before .before .loop .inv .1) _ refl (omega arith) (omega arith)),
   rw (c .before .before .one .ensures) (one-more _ _ _ _ (c .before .before .before .before .loop .inv .2) _ refl (omega arith) (omega arith)),
-  rw (c .before .before .one .ensures) (one-more _ _ _ _ (c .before .before .before .before .loop .inv .3) _ refl (omega arith) (omega arith)),
 )
 
 returns : tie.Need-returns Inv-loop μ-loop

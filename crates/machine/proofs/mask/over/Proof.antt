@@ -20,18 +20,12 @@ cast-either-3 c = search needs
 either-requires : tie.Need-either-requires
 either-requires c κs = search needs
 
-shl-refused : tie.Need-shl-refused
-shl-refused c = search needs
-
-shl-replaced : tie.Need-shl-replaced
-shl-replaced c = search needs
-
 replaced-requires : tie.Need-replaced-requires
 replaced-requires c κs = search needs
 
 returns : tie.Need-returns
 returns c = λ p e f.
-    compared (c .before .before .before .before .args .instruction) (c .before .before .before .before .args .x) (c .before .before .before .before .args .which) _ p (c .before .before .before .before .pre .0 .5) (c .before .before .before .before .args .from) (c .before .before .before .before .args .to) (c .before .before .either .result .found) (c .before .before .either .result .refused) _ (c .before .before .before .before .pre .0 .3) (c .before .before .before .before .pre .0 .4) (c .before .before .before .before .pre .1)
+    compared (c .before .before .before .before .args .instruction) (c .before .before .before .before .args .x) (c .before .before .before .before .args .which) _ p (c .before .before .before .before .pre .0 .3) (c .before .before .before .before .args .n) (c .before .before .either .result .found) (c .before .before .either .result .refused) _ (c .before .before .before .before .pre .0 .2) (c .before .before .before .before .pre .1)
     (rw (← (c .before .before .before .code .ensures)) (c .before .before .either .ensures .0))
     (rw (← (c .before .before .before .code .ensures)) (c .before .before .either .ensures .1))
     (λ k. rw e (c .before .replaced .ensures k))
@@ -40,7 +34,7 @@ returns c = λ p e f.
 
 returns-2 : tie.Need-returns-2
 returns-2 c = λ p e f.
-    compared (c .before .before .before .before .args .instruction) (c .before .before .before .before .args .x) (c .before .before .before .before .args .which) _ p (c .before .before .before .before .pre .0 .5) (c .before .before .before .before .args .from) (c .before .before .before .before .args .to) (c .before .before .either .result .found) (c .before .before .either .result .refused) _ (c .before .before .before .before .pre .0 .3) (c .before .before .before .before .pre .0 .4) (c .before .before .before .before .pre .1)
+    compared (c .before .before .before .before .args .instruction) (c .before .before .before .before .args .x) (c .before .before .before .before .args .which) _ p (c .before .before .before .before .pre .0 .3) (c .before .before .before .before .args .n) (c .before .before .either .result .found) (c .before .before .either .result .refused) _ (c .before .before .before .before .pre .0 .2) (c .before .before .before .before .pre .1)
     (rw (← (c .before .before .before .code .ensures)) (c .before .before .either .ensures .0))
     (rw (← (c .before .before .before .code .ensures)) (c .before .before .either .ensures .1))
     (λ k. rw e (c .before .replaced .ensures k))
@@ -56,8 +50,6 @@ over-spec =
     cast-either-2
     cast-either-3
     either-requires
-    shl-refused
-    shl-replaced
     replaced-requires
     returns
     returns-2)

@@ -1,12 +1,13 @@
 -- `straight` meets its contract: after k turns the first k instructions are done. Assumes nothing.
-use mathlib.Core.Path.{_≡_, refl}
+use mathlib.Core.Path.{_≡_}
 use Prim.Native.Nat.{_≤_, _-_}
 use borrow.Author.Needs.{needs}
 use native.Mathlib.Omega.{arith}
 use lib.ListN.{length}
 use Rattle.machine.specs.Run.{run}
 use Rattle.queue.specs.Tables.{throughBy}
-use Rattle.queue.proofs.Through.{turns, ends, whole-short}
+use Rattle.numbers.proofs.Rising.{starts, turns, ends}
+use Rattle.queue.proofs.Through.{whole-short}
 use Rattle.queue.proofs.runs.straight.Statement.{statement}
 use Rattle.queue.proofs.runs.straight.Tie as tie
 
@@ -17,8 +18,7 @@ abbrev μ-loop : tie.MeasureT-loop
 μ-loop elements₀ scalars program progress₀ k₀ elements progress k = length scalars - k
 
 loop-holds : tie.Need-loop-holds Inv-loop μ-loop
-unfolding throughBy
-loop-holds c = (search needs, search needs, refl)
+loop-holds c = (search needs, search needs, starts _ _)
 
 mul-instruction : tie.Need-mul-instruction Inv-loop μ-loop
 mul-instruction c = let few = c .before .before .before .pre .0 .1 in search needs
@@ -46,11 +46,11 @@ loop-less c = search needs
 loop-again : tie.Need-loop-again Inv-loop μ-loop
 loop-again c =
     let at = c .before .before .before .before .before in
-    (search needs, whole-short _ _ _ _ (at .loop .inv .1) (c .whole .ensures), turns _ _ _ (at .loop .k) _ _ (at .loop .inv .2) (c .whole .ensures))
+    (search needs, whole-short _ _ _ _ (at .loop .inv .1) (c .whole .ensures), turns _ (at .loop .k) _ _ _ (at .loop .inv .2) (c .whole .ensures))
 
 returns : tie.Need-returns Inv-loop μ-loop
 returns c =
-    ends _ _ _ (c .before .loop .k) _ (c .before .loop .inv .2) (c .before .loop .inv .0) (c .loop-test .left)
+    ends _ (c .before .loop .k) _ _ _ (c .before .loop .inv .0) (c .loop-test .left) (c .before .loop .inv .2)
 
 pub straight-spec : {M : Type 1} → statement M
 straight-spec =

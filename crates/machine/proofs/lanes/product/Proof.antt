@@ -1,7 +1,7 @@
 use Rattle.machine.specs.Loops.{laneWorked}
 use borrow.Author.Needs.{needs}
-use Rattle.machine.proofs.lanes.arithmetic.Statement.{statement}
-use Rattle.machine.proofs.lanes.arithmetic.Tie as tie
+use Rattle.machine.proofs.lanes.product.Statement.{statement}
+use Rattle.machine.proofs.lanes.product.Tie as tie
 
 mul-b : tie.Need-mul-b
 mul-b c = search needs
@@ -21,14 +21,14 @@ mul-to c = search needs
 add-to : tie.Need-add-to
 add-to c = search needs
 
-mul-arithmetic : tie.Need-mul-arithmetic
-mul-arithmetic c = search needs
+mul-product : tie.Need-mul-product
+mul-product c = search needs
 
-element-copy-out-arithmetic : tie.Need-element-copy-out-arithmetic
-element-copy-out-arithmetic c = search needs
+element-copy-out-product : tie.Need-element-copy-out-product
+element-copy-out-product c = search needs
 
-arithmetic-requires : tie.Need-arithmetic-requires
-arithmetic-requires c κs = search needs
+product-requires : tie.Need-product-requires
+product-requires c κs = search needs
 
 mul-elements : tie.Need-mul-elements
 mul-elements c = search needs
@@ -38,10 +38,10 @@ element-write-elements c = search needs
 
 returns : tie.Need-returns
 unfolding laneWorked
-returns c = rw (c .before .arithmetic .ensures)
+returns c = rw (c .before .product .ensures)
 
-pub arithmetic-spec : {M : Type 1} → statement M
-arithmetic-spec =
+pub product-spec : {M : Type 1} → statement M
+product-spec =
     tie.close
     (tie.spec
     mul-b
@@ -50,9 +50,9 @@ arithmetic-spec =
     element-copy-out-b
     mul-to
     add-to
-    mul-arithmetic
-    element-copy-out-arithmetic
-    arithmetic-requires
+    mul-product
+    element-copy-out-product
+    product-requires
     mul-elements
     element-write-elements
     returns)

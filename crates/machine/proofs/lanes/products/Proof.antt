@@ -1,16 +1,16 @@
 use native.Mathlib.Omega.{arith}
 use borrow.Author.Needs.{needs}
 use Rattle.numbers.proofs.SetBits.{Walk, starts-walk, ends-walk, index-below, less-left, turns-walk}
-use Rattle.machine.specs.Loops.{lanes, laneStep, floatingAt}
+use Rattle.machine.specs.Loops.{lanes, laneStep, productAt}
 use Rattle.machine.proofs.LaneLoops.{works}
-use Rattle.machine.proofs.lanes.arithmetics.Statement.{statement}
-use Rattle.machine.proofs.lanes.arithmetics.Tie as tie
+use Rattle.machine.proofs.lanes.products.Statement.{statement}
+use Rattle.machine.proofs.lanes.products.Tie as tie
 
 abbrev Inv-loop : tie.InvT-loop
-Inv-loop elements₀ code exc scalar x va vb vc which types₀ left₀ elements types left = Walk (laneStep (floatingAt code exc) scalar x va vb vc) which 64 (lanes elements₀ 0) left (lanes elements types)
+Inv-loop elements₀ exc scalar x va vb vc which types₀ left₀ elements types left = Walk (laneStep (productAt exc) scalar x va vb vc) which 64 (lanes elements₀ 0) left (lanes elements types)
 
 abbrev μ-loop : tie.MeasureT-loop
-μ-loop elements₀ code exc scalar x va vb vc which types₀ left₀ elements types left = left
+μ-loop elements₀ exc scalar x va vb vc which types₀ left₀ elements types left = left
 
 loop-holds : tie.Need-loop-holds Inv-loop μ-loop
 loop-holds c = search (starts-walk, needs)
@@ -21,8 +21,8 @@ lowest-requires c κs = search needs
 first-requires : tie.Need-first-requires Inv-loop μ-loop
 first-requires c κs = let b = index-below _ _ _ _ _ _ (c .before .before .before .loop .inv) (omega arith) (c .before .before .before .loop .inv .small) _ (c .before .lowest .ensures) in search needs
 
-arithmetic-requires : tie.Need-arithmetic-requires Inv-loop μ-loop
-arithmetic-requires c κs = let b = index-below _ _ _ _ _ _ (c .before .before .before .before .before .loop .inv) (omega arith) (c .before .before .before .before .before .loop .inv .small) _ (c .before .before .before .lowest .ensures) in search needs
+product-requires : tie.Need-product-requires Inv-loop μ-loop
+product-requires c κs = let b = index-below _ _ _ _ _ _ (c .before .before .before .before .before .loop .inv) (omega arith) (c .before .before .before .before .before .loop .inv .small) _ (c .before .before .before .lowest .ensures) in search needs
 
 without-lowest-requires : tie.Need-without-lowest-requires Inv-loop μ-loop
 without-lowest-requires c κs = search needs
@@ -31,13 +31,13 @@ loop-less : tie.Need-loop-less Inv-loop μ-loop
 loop-less c = less-left _ _ _ _ _ _ (c .before .before .before .before .before .before .before .loop .inv) (omega arith) (c .before .before .before .before .before .before .before .loop .inv .small) _ (c .before .before .before .before .before .lowest .ensures) _ (c .without-lowest .ensures)
 
 loop-again : tie.Need-loop-again Inv-loop μ-loop
-loop-again c = turns-walk _ _ _ _ _ _ (c .before .before .before .before .before .before .before .loop .inv) (omega arith) (c .before .before .before .before .before .before .before .loop .inv .small) _ (c .before .before .before .before .before .lowest .ensures) _ (c .without-lowest .ensures) _ (works _ _ _ _ _ _ _ _ _ _ (c .before .before .before .first .ensures) (c .before .arithmetic .ensures))
+loop-again c = turns-walk _ _ _ _ _ _ (c .before .before .before .before .before .before .before .loop .inv) (omega arith) (c .before .before .before .before .before .before .before .loop .inv .small) _ (c .before .before .before .before .before .lowest .ensures) _ (c .without-lowest .ensures) _ (works _ _ _ _ _ _ _ _ _ _ (c .before .before .before .first .ensures) (c .before .product .ensures))
 
 returns : tie.Need-returns Inv-loop μ-loop
 returns c = ends-walk _ _ _ _ _ _ (c .before .loop .inv) (c .loop-test .left)
 
-pub arithmetics-spec : {M : Type 1} → statement M
-arithmetics-spec =
+pub products-spec : {M : Type 1} → statement M
+products-spec =
     tie.close
     (tie.spec
     Inv-loop
@@ -45,7 +45,7 @@ arithmetics-spec =
     loop-holds
     lowest-requires
     first-requires
-    arithmetic-requires
+    product-requires
     without-lowest-requires
     loop-less
     loop-again
