@@ -560,6 +560,7 @@ static void queues(void)
     fill(longword, false);
     set_queue(whole_numbers);
     row("16 integer instructions", "element", passes_run, call_run, STATES, STEPS, 0, 0);
+    double straight_integer[2] = { last_row[0], last_row[1] };
     fill(ordinary, false);
     set_queue(heat_steps);
     row("16 mixed instructions", "element", passes_run, call_run, STATES, STEPS, 0, 0);
@@ -580,8 +581,7 @@ static void queues(void)
     fill(longword, false);
     set_queue(whole_numbers);
     random_orders();
-    row("random order, integer", "entry", passes_run_order, call_run_order, ORDERS * STATES, STEPS,
-        0, 0);
+    by_list("random order, integer", ORDERS * STATES, straight_integer);
     end("entry");
 
     /* The last entry is a repeat; then the second is one too. Beside 9 stands its position. */

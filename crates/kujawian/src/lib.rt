@@ -12,7 +12,7 @@ ghost use Rattle.state.specs.Answer.{answer};
 ghost use Rattle.control.specs.Moves.{outcomeOf, vlrRead, vcrRead, vmrLowRead, vmrHighRead, vaerRead, vpsrRead, vlrWritten, vcrWritten, vmrLowWritten, vmrHighWritten, vpsrWritten};
 ghost use Rattle.execute.specs.Execute.{executedOf};
 ghost use Rattle.queue.specs.Reply.{queue as queueOf};
-ghost use Rattle.queue.specs.Run.{queueRun, orderedRun};
+ghost use Rattle.queue.specs.Run.{queueRun, walkedRun, orderedRun};
 ghost use Rattle.saved.specs.Save.{saving};
 ghost use Rattle.saved.specs.Load.{loading};
 ghost use Rattle.kujawian.specs.Face.{controlOf, stateOf, written, left, ran, executed, fieldRead};
@@ -169,7 +169,8 @@ pub extern "C" fn kuj_run_order(
     order: &[u64],
     beside: &mut u64,
 ) -> u32
-    ensures { λ r. ⌜ (answer r (now (beside .exit)), now (elements .exit), now (control .exit)) ≡ left (now (control .entry)) (ran (orderedRun (queueOf (now (opcodes .entry)) (now (cntrls .entry)) (now (scalars .entry))) (now (order .entry)) (stateOf (now (elements .entry)) (now (control .entry))))) ⌝ }
+    ensures straight { λ r. ⌜ (answer r (now (beside .exit)), now (elements .exit), now (control .exit)) ≡ left (now (control .entry)) (ran (orderedRun (queueOf (now (opcodes .entry)) (now (cntrls .entry)) (now (scalars .entry))) (now (order .entry)) (stateOf (now (elements .entry)) (now (control .entry))))) ⌝ }
+    ensures walked { λ r. ⌜ (answer r (now (beside .exit)), now (elements .exit), now (control .exit)) ≡ left (now (control .entry)) (ran (walkedRun (queueOf (now (opcodes .entry)) (now (cntrls .entry)) (now (scalars .entry))) (now (order .entry)) (stateOf (now (elements .entry)) (now (control .entry))))) ⌝ }
 {
     let after = queue::run_order(
         elements,

@@ -83,6 +83,11 @@ module _ (ins : Instruction) (scalar which : ℕ) (r : Run) where
       at true = keeps-bit ins scalar n (after n) j (λ e. omega arith)
       at false = refl
 
+-- the steps of a set of one element are that element's step
+pub alone : (ins : Instruction) (scalar i part : ℕ) (r : Run) → i < 64 → bit part i ≡ true → ((j : ℕ) → j < 64 → bit part j ≡ true → j ≡ i) → stepsIn part ins scalar r ≡ stepOf ins scalar i r
+unfolding stepsIn
+alone ins scalar i part r h one only = single (stepOf ins scalar) r i part h one only
+
 -- ---- the set of the elements that an instruction operates on
 module _ (ins : Instruction) (scalar all : ℕ) (r : Run) (short : r .progress .control .vlr ≤ 64) where
   abbrev merge : Bool
@@ -163,13 +168,13 @@ module _ (ins : Instruction) (scalar all : ℕ) (r : Run) (short : r .progress .
     pub some : (part which : ℕ) → 0 < part → part < 2 ^ 64 → (isIota (kindOf (ins .work)) ≡ true → (i : ℕ) → i < 64 → bit part i ≡ true → i ≡ 0) → which ≡ bitAnd part all
         → doneFor which ins scalar r ≡ stepsIn part ins scalar r
     unfolding doneFor stepsIn ofOnes stepOf
-    some part which more word alone e = at (isIota (kindOf (ins .work))) refl
+    some part which more word only e = at (isIota (kindOf (ins .work))) refl
       where
         at : (t : Bool) → isIota (kindOf (ins .work)) ≡ t → pick t (iotaStep ins scalar r) (rising (ofOnes (worked ins scalar) which) 64 r) ≡ rising (ofOnes (stepOf ins scalar) part) 64 r
-        at true k = sym (single (stepOf ins scalar) r 0 part (omega arith) first (alone k) ∙ its-step)
+        at true k = sym (alone ins scalar 0 part r (omega arith) first (only k) ∙ its-step)
           where
             first : bit part 0 ≡ true
-            first = let w = has-one part more word in subst (λ (i : ℕ). bit part i ≡ true) (alone k (w .0) (w .1) (w .2)) (w .2)
+            first = let w = has-one part more word in subst (λ (i : ℕ). bit part i ≡ true) (only k (w .0) (w .1) (w .2)) (w .2)
 
             its-step : stepOf ins scalar 0 r ≡ iotaStep ins scalar r
             its-step = pick-true (isIota (kindOf (ins .work))) (iotaStep ins scalar r) (elementStep ins scalar 0 r) k

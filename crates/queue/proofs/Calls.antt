@@ -55,10 +55,13 @@ pub stands-accepted : (c : Control) (q : Queue) (r : Reply) → replyAnswer r �
 unfolding standing
 stands-accepted c q r e f = accepted c q (pick (enabled c) (done 0) disabled) (sym (ap fine e) ∙ f)
 
+pub fine-accepted : (c : Control) (q : Queue) → fine (acceptance c q) ≡ true → Accepted c q
+unfolding acceptance
+fine-accepted c q = accepted c q (pick (enabled c) (positions q (size q)) disabled)
+
 module _ (q : Queue) (l : List ℕ) (c : Control) (r : Reply) (asked : replyAnswer r ≡ acceptance c q) where
   pub reply-accepted : fine (replyAnswer r) ≡ true → Accepted c q
-  unfolding acceptance
-  reply-accepted f = accepted c q (pick (enabled c) (positions q (size q)) disabled) (sym (ap fine asked) ∙ f)
+  reply-accepted f = fine-accepted c q (sym (ap fine asked) ∙ f)
 
   -- ---- straight through
   pub run-refused : fine (replyAnswer r) ≡ false → outcome (replyAnswer r) (state l c) ≡ queueRun q (state l c)
@@ -97,15 +100,15 @@ module _ (q : Queue) (l : List ℕ) (c : Control) (r : Reply) (asked : replyAnsw
   unfolding orderedRun
   order-refused f list =
       ap (λ (a : Answer). outcome a (state l c)) asked
-      ∙ sym (ap (λ (t : Bool). pick t (byVerdict q (state l c) (verdictOf q (c .vlr) list)) (outcome (acceptance c q) (state l c))) (sym (ap fine asked) ∙ f))
+      ∙ sym (ap (λ (t : Bool). pick t (byVerdict (state l c) (ranThrough q (state l c)) (verdictOf q (c .vlr) list)) (outcome (acceptance c q) (state l c))) (sym (ap fine asked) ∙ f))
 
   module _ (f : fine (replyAnswer r) ≡ true) (list : List ℕ) where
-    ordered : byVerdict q (state l c) (verdictOf q (c .vlr) list) ≡ orderedRun q list (state l c)
+    ordered : byVerdict (state l c) (ranThrough q (state l c)) (verdictOf q (c .vlr) list) ≡ orderedRun q list (state l c)
     unfolding orderedRun
-    ordered = sym (ap (λ (t : Bool). pick t (byVerdict q (state l c) (verdictOf q (c .vlr) list)) (outcome (acceptance c q) (state l c))) (sym (ap fine asked) ∙ f))
+    ordered = sym (ap (λ (t : Bool). pick t (byVerdict (state l c) (ranThrough q (state l c)) (verdictOf q (c .vlr) list)) (outcome (acceptance c q) (state l c))) (sym (ap fine asked) ∙ f))
 
     pub order-stopped : (v : Verdict) (place : ℕ) → v ≡ verdictOf q (c .vlr) list → v ≡ verdict.Refused place → outcome (orderRefused place) (state l c) ≡ orderedRun q list (state l c)
-    order-stopped v place e g = ap (byVerdict q (state l c)) (sym g ∙ e) ∙ ordered
+    order-stopped v place e g = ap (byVerdict (state l c) (ranThrough q (state l c))) (sym g ∙ e) ∙ ordered
 
     module _ (program : List Instruction) (same : (k : ℕ) → k < size q → decodedAt program k ≡ instructionAt q k) (v : Verdict) (e : v ≡ verdictOf q (c .vlr) list) (permitted : v ≡ verdict.Permitted) where
       allowed : verdictOf q (c .vlr) list ≡ verdict.Permitted
@@ -132,5 +135,5 @@ module _ (q : Queue) (l : List ℕ) (c : Control) (r : Reply) (asked : replyAnsw
           ∙ ap (λ (b : Progress). walkOf (actBy program (q .scalars)) list (run l b)) starts
           ∙ run-same (actBy program (q .scalars)) (act q) list (λ x m s. same-acts q program same x (entry-of x m) s) (run l (progress c false))
           ∙ permitted-straight ig q (run l (progress c false)) (reply-accepted f .short) list allowed))
-          ∙ sym (ap (byVerdict q (state l c)) allowed)
+          ∙ sym (ap (byVerdict (state l c) (ranThrough q (state l c))) allowed)
           ∙ ordered

@@ -9,8 +9,8 @@ use Rattle.machine.specs.Run.{begun, finished}
 use Rattle.queue.specs.declared.Verdict.{Verdict}
 use Rattle.queue.specs.declared.Verdict.the-variants.{Permitted, Refused}
 use Rattle.queue.specs.Queue.{Queue, size, fine, acceptance, straight}
-use Rattle.queue.specs.Touch.{stepsOf, mustFollow}
-use Rattle.queue.specs.Order.{check}
+use Rattle.queue.specs.Touch.{stepsOf, act, mustFollow}
+use Rattle.queue.specs.Order.{check, run}
 
 -- what a call gives back, and the state after it
 pub record Outcome : Type 0 where
@@ -35,11 +35,20 @@ queueRun q s = pick (fine (acceptance (s .control) q)) (outcome (done 0) (ranThr
 unfoldable pub verdictOf : Queue → ℕ → List ℕ → Verdict
 verdictOf q vlr list = check (mustFollow q vlr) (stepsOf q vlr) list
 
--- by a list of an accepted queue
-abbrev pub byVerdict : Queue → State → Verdict → Outcome
-byVerdict q s Permitted = outcome (done 0) (ranThrough q s)
-byVerdict q s (Refused place) = outcome (orderRefused place) s
+-- by a list of an accepted queue, where a permitted one ends in the state `end`
+abbrev pub byVerdict : State → State → Verdict → Outcome
+byVerdict s end Permitted = outcome (done 0) end
+byVerdict s end (Refused place) = outcome (orderRefused place) s
 
+-- the state after a permitted list: one entry at a time, each step on what the last one left; VEN and AEX change only after its last entry
+unfoldable pub ranBy : Queue → List ℕ → State → State
+ranBy q list s = finished (run (act q) list (begun s))
+
+unfoldable pub walkedRun : Queue → List ℕ → State → Outcome
+walkedRun q list s =
+    pick (fine (acceptance (s .control) q)) (byVerdict s (ranBy q list s) (verdictOf q (s .control .vlr) list)) (outcome (acceptance (s .control) q) s)
+
+-- the same with the straight run's state; proofs/DemandThree.antt proves that the two are one
 unfoldable pub orderedRun : Queue → List ℕ → State → Outcome
 orderedRun q list s =
-    pick (fine (acceptance (s .control) q)) (byVerdict q s (verdictOf q (s .control .vlr) list)) (outcome (acceptance (s .control) q) s)
+    pick (fine (acceptance (s .control) q)) (byVerdict s (ranThrough q s) (verdictOf q (s .control .vlr) list)) (outcome (acceptance (s .control) q) s)

@@ -5,7 +5,7 @@ ghost use mathlib.Core.Path.{_≡_};
 ghost use Rattle.state.specs.State.{state};
 ghost use Rattle.queue.specs.Queue.{fine};
 ghost use Rattle.queue.specs.Reply.{queue, replyAnswer};
-ghost use Rattle.queue.specs.Run.{outcome, queueRun, orderedRun};
+ghost use Rattle.queue.specs.Run.{outcome, queueRun, walkedRun, orderedRun};
 
 mod acceptance;
 mod bound;
@@ -75,8 +75,8 @@ pub fn run(
     }
 }
 
-// A queue by a list of its steps: a permitted list ends in the state of the straight run, any other is
-// refused with 9 and its first bad position.
+// A queue by a list of its steps: a permitted list ends in the state of the straight run, which is that of its entries done one
+// after the other; any other is refused with 9 and its first bad position.
 pub fn run_order(
     elements: &mut [u64; 1024],
     control: Control,
@@ -85,7 +85,8 @@ pub fn run_order(
     scalars: &[u64],
     list: &[u64],
 ) -> Ran
-    ensures { λ r. ⌜ outcome (replyAnswer (r .reply)) (state (now (elements .exit)) (r .control)) ≡ orderedRun (queue (now (opcodes .entry)) (now (cntrls .entry)) (now (scalars .entry))) (now (list .entry)) (state (now (elements .entry)) control) ⌝ }
+    ensures straight { λ r. ⌜ outcome (replyAnswer (r .reply)) (state (now (elements .exit)) (r .control)) ≡ orderedRun (queue (now (opcodes .entry)) (now (cntrls .entry)) (now (scalars .entry))) (now (list .entry)) (state (now (elements .entry)) control) ⌝ }
+    ensures walked { λ r. ⌜ outcome (replyAnswer (r .reply)) (state (now (elements .exit)) (r .control)) ≡ walkedRun (queue (now (opcodes .entry)) (now (cntrls .entry)) (now (scalars .entry))) (now (list .entry)) (state (now (elements .entry)) control) ⌝ }
 {
     let accepted = acceptance::accept(control, opcodes, cntrls, scalars);
     let reply = accepted.reply;

@@ -6,8 +6,10 @@ use borrow.Author.Needs.{needs}
 use borrow.Author.Tests.{not-true, not-false}
 use lib.ListN.{length}
 use native.Mathlib.Omega.{arith}
+use Rattle.state.specs.State.{state}
 use Rattle.queue.specs.Reply.{queue}
 use Rattle.queue.proofs.Preparing.{Prepared, prepared-none, prepared-more, listed-refused, listed-few, listed-below, check-meets, listed-stopped, walk-meets, listed-done}
+use Rattle.queue.proofs.DemandThree.{both}
 use Rattle.queue.proofs.run_order.Statement.{statement}
 use Rattle.queue.proofs.run_order.Tie as tie
 
@@ -28,7 +30,8 @@ is-done-requires c κs = search needs
 returns : tie.Need-returns Inv-loop μ-loop
 returns c =
     let d = c .before .before in let z = d .before .before .before .before .before .args in
-    listed-refused _ (z .elements .now) _ (d .accept .result .reply) _ (d .accept .ensures) (sym (c .before .is-done .ensures) ∙ not-true _ (c .if1 .taken)) _
+    let q = queue (z .opcodes .now) (z .cntrls .now) (z .scalars .now) in
+    both q (z .list .now) (state (z .elements .now) (z .control)) _ (listed-refused q (z .elements .now) (z .control) (d .accept .result .reply) _ (d .accept .ensures) (sym (c .before .is-done .ensures) ∙ not-true _ (c .if1 .taken)) (z .list .now))
 
 loop-holds : tie.Need-loop-holds Inv-loop μ-loop
 loop-holds c =
@@ -96,13 +99,13 @@ returns-2 : tie.Need-returns-2 Inv-loop μ-loop
 returns-2 c =
     let b = c .before .before in let told = b .before .before .before in let v = told .before .before in let out = v .before .before in let at = out .before in let e = at .before in let d = e .before .before in let z = d .before .before .before .before .before .args in
     let q = queue (z .opcodes .now) (z .cntrls .now) (z .scalars .now) in let fine = sym (e .before .is-done .ensures) ∙ not-false _ (e .if1 .left) in
-    listed-done q (z .elements .now) (z .control) (d .accept .result .reply) _ (d .accept .ensures) fine _ _ _ _ (at .loop .inv) (out .loop-test .left) (z .list .now) (v .check .result) (v .check .ensures) (told .enum-told .given .1) _ (b .begin .ensures) _ _ _ (c .end .ensures) (c .before .walk .ensures)
+    both q (z .list .now) (state (z .elements .now) (z .control)) _ (listed-done q (z .elements .now) (z .control) (d .accept .result .reply) _ (d .accept .ensures) fine _ _ _ _ (at .loop .inv) (out .loop-test .left) (z .list .now) (v .check .result) (v .check .ensures) (told .enum-told .given .1) _ (b .begin .ensures) _ _ _ (c .end .ensures) (c .before .walk .ensures))
 
 returns-3 : tie.Need-returns-3 Inv-loop μ-loop
 returns-3 c =
     let v = c .before .before .before in let out = v .before .before in let at = out .before in let e = at .before in let d = e .before .before in let z = d .before .before .before .before .before .args in
     let q = queue (z .opcodes .now) (z .cntrls .now) (z .scalars .now) in let fine = sym (e .before .is-done .ensures) ∙ not-false _ (e .if1 .left) in
-    listed-stopped q (z .elements .now) (z .control) (d .accept .result .reply) _ (d .accept .ensures) fine _ _ _ _ (at .loop .inv) (out .loop-test .left) (z .list .now) (v .check .result) (v .check .ensures) _ (c .before .place .given .1)
+    both q (z .list .now) (state (z .elements .now) (z .control)) _ (listed-stopped q (z .elements .now) (z .control) (d .accept .result .reply) _ (d .accept .ensures) fine _ _ _ _ (at .loop .inv) (out .loop-test .left) (z .list .now) (v .check .result) (v .check .ensures) _ (c .before .place .given .1))
 
 pub run-order-spec : {M : Type 1} → statement M
 run-order-spec =
