@@ -2,6 +2,7 @@
 // work is called: the compiler makes a loop for each. The set of all elements below a length has loops of its own.
 use crate::operand;
 use element;
+use element::Out;
 use numbers::bits;
 use opcodes::Instruction;
 ghost use mathlib.Core.Path.{_≡_};
@@ -11,7 +12,16 @@ ghost use Rattle.numbers.specs.Rising.{rising, ofOnes};
 ghost use Rattle.opcodes.specs.WorkNumbers.{workNumber};
 ghost use mathlib.Core.Bool.{false};
 ghost use Rattle.machine.specs.Kind.{kindOf, isCompare};
-ghost use Rattle.machine.specs.Loops.{lanes, laneWorked, laneStep, oneAt, shortAt, totalAt, productAt, convertAt, workAt};
+ghost use Rattle.machine.specs.Loops.{lanes, landed, laneWorked, laneStep, oneAt, shortAt, totalAt, productAt, convertAt, workAt};
+
+// Element i of vc receives a result; the types that it recorded join the others.
+fn land(elements: &mut [u64; 1024], types: u64, o: Out, vc: usize, i: usize) -> u64
+    requires { ⌜ (vc < 16) × (i < 64) ⌝ }
+    ensures { λ r. ⌜ lanes (now (elements .exit)) r ≡ landed vc i (lanes (now (elements .entry)) types) o ⌝ }
+{
+    elements[vc * 64 + i] = o.value;
+    types | o.types
+}
 
 // A short work of one element.
 fn short(
@@ -28,11 +38,15 @@ fn short(
     requires { ⌜ (vb < 16) × (vc < 16) × (i < 64) ⌝ }
     ensures { λ r. ⌜ lanes (now (elements .exit)) r ≡ laneWorked (oneAt code exc matches) a vb vc i (lanes (now (elements .entry)) types) ⌝ }
 {
-    let b = elements[vb * 64 + i];
-    let to = vc * 64 + i;
-    let o = element::short(code, exc, matches, a, b, elements[to]);
-    elements[to] = o.value;
-    types | o.types
+    let b = operand::own(&*elements, vb, i);
+    let c = operand::own(&*elements, vc, i);
+    land(
+        elements,
+        types,
+        element::short(code, exc, matches, a, b, c),
+        vc,
+        i,
+    )
 }
 
 // Every element below n. The mask is halved at each, since vector code has no shift by another number for each element.
@@ -124,11 +138,9 @@ fn total(
     requires { ⌜ (vb < 16) × (vc < 16) × (i < 64) ⌝ }
     ensures { λ r. ⌜ lanes (now (elements .exit)) r ≡ laneWorked (totalAt minus exc) a vb vc i (lanes (now (elements .entry)) types) ⌝ }
 {
-    let b = elements[vb * 64 + i];
-    let to = vc * 64 + i;
-    let o = element::total(minus, exc, a, b, elements[to]);
-    elements[to] = o.value;
-    types | o.types
+    let b = operand::own(&*elements, vb, i);
+    let c = operand::own(&*elements, vc, i);
+    land(elements, types, element::total(minus, exc, a, b, c), vc, i)
 }
 
 // The elements of a set.
@@ -170,11 +182,9 @@ fn product(
     requires { ⌜ (vb < 16) × (vc < 16) × (i < 64) ⌝ }
     ensures { λ r. ⌜ lanes (now (elements .exit)) r ≡ laneWorked (productAt exc) a vb vc i (lanes (now (elements .entry)) types) ⌝ }
 {
-    let b = elements[vb * 64 + i];
-    let to = vc * 64 + i;
-    let o = element::product(exc, a, b, elements[to]);
-    elements[to] = o.value;
-    types | o.types
+    let b = operand::own(&*elements, vb, i);
+    let c = operand::own(&*elements, vc, i);
+    land(elements, types, element::product(exc, a, b, c), vc, i)
 }
 
 // The elements of a set.
@@ -215,11 +225,15 @@ fn convert(
     requires { ⌜ (vb < 16) × (vc < 16) × (i < 64) ⌝ }
     ensures { λ r. ⌜ lanes (now (elements .exit)) r ≡ laneWorked (convertAt exc conversion) 0 vb vc i (lanes (now (elements .entry)) types) ⌝ }
 {
-    let b = elements[vb * 64 + i];
-    let to = vc * 64 + i;
-    let o = element::converted(exc, conversion, b, elements[to]);
-    elements[to] = o.value;
-    types | o.types
+    let b = operand::own(&*elements, vb, i);
+    let c = operand::own(&*elements, vc, i);
+    land(
+        elements,
+        types,
+        element::converted(exc, conversion, b, c),
+        vc,
+        i,
+    )
 }
 
 // The elements of a set.

@@ -34,7 +34,7 @@ fn one(
         code,
         relation,
         operand::first(elements, scalar, x, va, i),
-        elements[vb * 64 + i],
+        operand::own(elements, vb, i),
     )
 }
 
