@@ -1,18 +1,15 @@
 -- A work's number stands for that work. Assumes nothing.
-use mathlib.Core.Path.{_≡_, refl, sym, ap, subst, _∙_}
-use mathlib.Core.Bool.{Bool, true, false, cond, _||_}
+use mathlib.Core.Path.{_≡_, refl}
+use mathlib.Core.Bool.{Bool, true, false, cond}
 use mathlib.Core.Logic.{_⊎_, inl, inr}
 use mathlib.Core.List.{List, [], _∷_}
 use Prim.Native.Nat.{ℕ, zero, suc}
-use Rattle.element.specs.declared.Out.{Out}
 use Rattle.opcodes.specs.declared.Work.{Work}
 use Rattle.opcodes.specs.declared.Work.the-variants.{AddLongword, SubtractLongword, MultiplyLongword, CompareLongword, BitSet, ExclusiveOr, BitClear, ShiftRight, ShiftLeft, AddF, SubtractF, MultiplyF, CompareF, Convert, Iota, Merge, LoadLongword, LoadQuadword, StoreLongword, StoreQuadword}
 use Rattle.opcodes.specs.WorkNumbers.{workNumber}
 use lib.Dec.{eqb}
-use borrow.Author.Tests.{eqb-true}
 use Rattle.numbers.specs.Choice.{pick}
 use Rattle.numbers.specs.Halves.{low}
-use Rattle.numbers.proofs.Tests.{true-not-false}
 use Rattle.floating.specs.Format.{F, isReserved}
 use Rattle.floating.specs.Operations.{answered, sum, difference}
 use Rattle.floating.specs.declared.Compared.{Compared}

@@ -1,5 +1,5 @@
--- The works of one element in groups, each done by a function of its own: integer, logical and shift works and merge, which are short; floating sum and difference; floating product; convert; and compares. No public promise cites
--- this.
+-- The works of one element in groups, each done by a function of its own: integer, logical and shift works and merge, which are short; floating sum and difference; floating product; convert; and compares. No public promise
+-- cites this.
 use mathlib.Core.Bool.{Bool}
 use mathlib.Core.List.{[], _∷_}
 use Prim.Native.Nat.{ℕ}
@@ -38,6 +38,6 @@ shortWork n =
 abbrev pub totalWork : Bool → Work
 totalWork minus = pick minus SubtractF AddF
 
--- the compare of a number
+-- the compare of a number: 4 is the longword's, any other F's
 abbrev pub compareWork : ℕ → Work
 compareWork n = pick (eqb n 4) CompareLongword CompareF

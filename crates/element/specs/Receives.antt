@@ -1,6 +1,6 @@
 -- Document 01, "What an element receives": the work of one element, over what it reads there. a is Va's element or the scalar, b is Vb's, c is Vc's own.
 use mathlib.Core.Bool.{Bool, _&&_}
-use mathlib.Core.List.{List, [], _∷_}
+use mathlib.Core.List.{[], _∷_}
 use Prim.Native.Nat.{ℕ}
 use lib.Dec.{eqb}
 use lib.IntN.{ℤ}

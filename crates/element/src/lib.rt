@@ -1,4 +1,4 @@
-// What one element receives: every operation on plain numbers, by the work's number.
+// What one element receives: every operation on plain numbers, in groups of works.
 use opcodes::Work;
 ghost use mathlib.Core.Path.{_≡_};
 ghost use Rattle.numbers.specs.Choice.{pick};

@@ -1,6 +1,5 @@
 -- One instruction, for any state, opcode, control word, scalar, base, stride, window and origin.
 -- Document 01, "Numbers given back": order for one instruction: 12, 1, 3, 2, then for memory 4, 5 or 6. A refusal changes no state and no memory.
-use mathlib.Core.Bool.{Bool}
 use mathlib.Core.List.{List}
 use Prim.Native.Nat.{ℕ}
 use Rattle.numbers.specs.Choice.{pick}

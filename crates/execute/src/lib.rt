@@ -10,7 +10,6 @@ use opcodes::table;
 use state::Control;
 ghost use mathlib.Core.Path.{_≡_};
 ghost use Prim.Native.Nat.{_<_, _≤_};
-ghost use mathlib.Core.Bool.{false};
 ghost use Rattle.state.specs.State.{state as stateOf};
 ghost use Rattle.memory.specs.Address.{accessAnswer};
 ghost use Rattle.machine.specs.Instruction.{instructionOf};

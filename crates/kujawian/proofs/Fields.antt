@@ -11,7 +11,7 @@ use Rattle.numbers.specs.Halves.{low}
 use Rattle.numbers.proofs.Tests.{and-right, pick-true, pick-false}
 use Rattle.state.specs.declared.Control.{Control}
 use Rattle.state.specs.Answer.{Answer, done, outOfRange, noSuchField}
-use Rattle.state.specs.State.{State, state, inRange}
+use Rattle.state.specs.State.{state, inRange}
 use Rattle.state.specs.Elements.{at}
 use Rattle.floating.specs.declared.Reading.{Reading}
 use Rattle.floating.specs.Reading.{kindOf, bitsOf}

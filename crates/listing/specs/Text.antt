@@ -1,5 +1,5 @@
 -- Document 01, "Saved state and readings": what the lister prints, as bytes of ASCII.
-use mathlib.Core.Bool.{Bool, _&&_}
+use mathlib.Core.Bool.{_&&_}
 use mathlib.Core.List.{List, [], _∷_, _++_}
 use Prim.Native.Nat.{ℕ, zero, suc, _+_, _/_, _%_}
 use lib.Dec.{ltb, leb, eqb}

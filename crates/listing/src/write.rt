@@ -3,7 +3,6 @@ use state::Control;
 use state::Element;
 use state::Register;
 ghost use mathlib.Core.Path.{_≡_};
-ghost use mathlib.Core.List.{[], _∷_};
 ghost use Prim.Native.Nat.{_+_, _<_, _≤_};
 ghost use lib.ListN.{length};
 ghost use Rattle.listing.specs.Text.{digitOf, digits, widthOf, line as lineOf, elementLine, controlLines};

@@ -1,14 +1,14 @@
 -- The loop over compares, and what it makes of the mask. Assumes nothing.
-use mathlib.Core.Path.{_≡_, refl, sym, ap, ap₂, subst, _∙_}
-use mathlib.Core.Bool.{Bool, true, false, not, _||_, _&&_}
+use mathlib.Core.Path.{_≡_, refl, sym, ap, ap₂, _∙_}
+use mathlib.Core.Bool.{Bool, true, false, not, _&&_}
 use mathlib.Core.Logic.{_⊎_, inl, inr}
 use mathlib.Core.List.{List}
 use Prim.Native.Nat.{ℕ, zero, suc, _+_, _-_, _*_, _/_, _%_, _^_, _≤_, _<_}
 use native.Mathlib.Nat.{pow-suc, mod-lt, zero-add}
 use native.Mathlib.Omega.{arith}
-use borrow.Author.Tests.{lt-ltb, le-ltb, ltb-true, eqb-true, eq-eqb, ne-eqb}
+use borrow.Author.Tests.{lt-ltb, le-ltb, eq-eqb, ne-eqb}
 use lib.Dec.{eqb, ltb}
-use lib.Bits.{bitOr, bitAnd, or-zero-l, or-zero-r, or-self}
+use lib.Bits.{bitOr, bitAnd}
 use lib.Pow.{pow-mono}
 use Rattle.numbers.specs.Choice.{pick}
 use Rattle.numbers.specs.Bits.{bit, withBit}
@@ -16,15 +16,13 @@ use Rattle.numbers.specs.Rising.{rising, ofOnes}
 use Rattle.numbers.proofs.BitLaws.{digit-suc, digit-zero, bit-is, bit-kept, bit-replaced, decEq}
 use Rattle.numbers.proofs.Sets.{same-bits, bit-and, bit-none}
 use Rattle.numbers.proofs.SetBits.{ones-carry}
-use Rattle.numbers.proofs.Tests.{true-not-false, below-or-not, and-left, and-right, pick-true, pick-false}
-use Rattle.state.specs.State.{placeOf}
+use Rattle.numbers.proofs.Tests.{below-or-not, and-left, and-right, pick-true, pick-false}
 use Rattle.state.specs.Elements.{at, matches}
 use Rattle.opcodes.specs.declared.Work.{Work}
 use Rattle.opcodes.specs.declared.Instruction.{Instruction}
 use Rattle.opcodes.specs.WorkNumbers.{workNumber}
 use Rattle.element.specs.declared.Out.{Out}
 use Rattle.element.specs.Receives.{resultOf}
-use Rattle.element.specs.Groups.{compareWork}
 use Rattle.element.proofs.Codes.{compare-ignores, compare-types}
 use Rattle.machine.specs.declared.Effect.{Effect}
 use Rattle.machine.specs.declared.Kind.{Kind}
@@ -32,7 +30,7 @@ use Rattle.machine.specs.declared.Kind.the-variants as kind
 use Rattle.machine.specs.declared.Progress.{Progress}
 use Rattle.machine.specs.Kind.{kindOf, isCompare, isIota}
 use Rattle.machine.specs.Run.{Run, run, progress, withVmr, withVcr, gathered}
-use Rattle.machine.specs.Step.{fieldOf, first, received, registerBit, notes, written, recorded, worked}
+use Rattle.machine.specs.Step.{first, received, registerBit, notes, written, recorded, worked}
 use Rattle.machine.specs.Iota.{iotaStep}
 use Rattle.machine.specs.Loops.{comparedAt, oddFrom, effected, doneFor}
 use Rattle.machine.proofs.Gather.{gathered-twice, gathered-none}

@@ -3,10 +3,9 @@ use mathlib.Core.Path.{_≡_, refl, sym, ap, ap₂, _∙_}
 use mathlib.Core.Bool.{Bool, true, false, not, Bool·beq}
 use mathlib.Core.List.{List}
 use Prim.Native.Nat.{ℕ, _%_, _^_, _<_}
-use lib.Bits.{bitOr}
 use lib.ListN.{set}
 use Rattle.numbers.specs.Choice.{pick}
-use Rattle.numbers.specs.Bits.{bit, complement}
+use Rattle.numbers.specs.Bits.{bit}
 use Rattle.numbers.specs.Rising.{rising, ofOnes}
 use Rattle.numbers.proofs.BitLaws.{bit-complement}
 use Rattle.numbers.proofs.SetBits.{ones-carry}
@@ -23,9 +22,9 @@ use Rattle.machine.specs.declared.Effect.{Effect}
 use Rattle.machine.specs.declared.Progress.{Progress}
 use Rattle.machine.specs.Kind.{kindOf, isCompare, isIota}
 use Rattle.machine.specs.Run.{Run, run, progress, withVmr, withVcr, gathered}
-use Rattle.machine.specs.Step.{fieldOf, first, received, registerBit, notes, written, recorded, worked}
+use Rattle.machine.specs.Step.{first, received, registerBit, notes, written, recorded, worked}
 use Rattle.machine.specs.Iota.{iotaStep}
-use Rattle.machine.specs.Loops.{matched, Lanes, lanes, landed, laneWorked, laneStep, workAt, effected, doneFor}
+use Rattle.machine.specs.Loops.{matched, Lanes, lanes, laneWorked, laneStep, workAt, effected, doneFor}
 use Rattle.machine.proofs.Gather.{gathered-twice, gathered-none, notes-or}
 
 -- a one of the mask or its complement is a bit that is MTF

@@ -1,4 +1,4 @@
--- A whole register instruction: its steps in rising order. IOTA is one step, also at VLR 0.
+-- A whole register instruction, or some of it: steps in rising order. IOTA is one step, also at VLR 0.
 use Prim.Native.Nat.{ℕ, zero, suc}
 use Rattle.numbers.specs.Choice.{pick}
 use Rattle.numbers.specs.Rising.{rising, ofOnes}
@@ -9,7 +9,7 @@ use Rattle.machine.specs.Run.{Run, begun, finished}
 use Rattle.machine.specs.Step.{elementStep}
 use Rattle.machine.specs.Iota.{iotaStep}
 
--- the step of element i of an instruction
+-- the step of element i of an instruction; an IOTA's is the same for every i, of which only 0 is a step
 unfoldable pub stepOf : Instruction → ℕ → ℕ → Run → Run
 stepOf ins scalar i r = pick (isIota (kindOf (ins .work))) (iotaStep ins scalar r) (elementStep ins scalar i r)
 
@@ -18,7 +18,7 @@ unfoldable pub stepsBelow : ℕ → Instruction → ℕ → Run → Run
 stepsBelow zero ins scalar r = r
 stepsBelow (suc n) ins scalar r = stepOf ins scalar n (stepsBelow n ins scalar r)
 
--- the steps of the elements of a set, in rising order
+-- the steps of the elements of a set, in rising order, each on what the last one left; of an IOTA the set has no element but 0
 unfoldable pub stepsIn : ℕ → Instruction → ℕ → Run → Run
 stepsIn part ins scalar r = rising (ofOnes (stepOf ins scalar) part) 64 r
 

@@ -1,12 +1,11 @@
 -- What the loops over elements make, in the terms that they work with. No public promise cites this; proofs/ shows that this is what the instruction's steps make.
-use mathlib.Core.Bool.{Bool, true, false}
+use mathlib.Core.Bool.{Bool, false}
 use mathlib.Core.List.{List}
-use Prim.Native.Nat.{ℕ, zero, suc, _+_, _*_, _/_, _%_, _^_}
+use Prim.Native.Nat.{ℕ, zero, suc, _+_, _*_, _%_, _^_}
 use lib.Bits.{bitOr}
 use lib.ListN.{set}
 use Rattle.numbers.specs.Choice.{pick}
 use Rattle.numbers.specs.Bits.{bit, complement}
-use Rattle.numbers.specs.Halves.{withLow}
 use Rattle.numbers.specs.Rising.{rising, ofOnes}
 use Rattle.state.specs.State.{placeOf}
 use Rattle.state.specs.Elements.{at}
@@ -49,7 +48,7 @@ laneWorked w a vb vc i s = landed vc i s (w i a (at (s .elements) vb i) (at (s .
 unfoldable pub laneStep : (ℕ → ℕ → ℕ → ℕ → Out) → Bool → ℕ → ℕ → ℕ → ℕ → ℕ → Lanes → Lanes
 laneStep w scalar x va vb vc i s = laneWorked w (operandAt scalar x va (s .elements) i) vb vc i s
 
--- the works by their numbers
+-- the works, by their numbers or groups
 abbrev pub oneAt : ℕ → Bool → Bool → ℕ → ℕ → ℕ → ℕ → Out
 oneAt code exc matches i a b c = resultOf (shortWork code) exc 0 matches a b c
 

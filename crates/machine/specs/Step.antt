@@ -1,10 +1,10 @@
 -- Document 01, "What an element receives" and "Queues and orders": the step of one element.
-use mathlib.Core.Bool.{Bool, true, false, not, _&&_, _||_}
+use mathlib.Core.Bool.{Bool, not, _&&_, _||_}
 use mathlib.Core.List.{List}
 use Prim.Native.Nat.{ℕ, _+_, _%_, _^_}
 use lib.Dec.{ltb, eqb}
 use lib.Bits.{bitOr}
-use lib.ListN.{getD, set}
+use lib.ListN.{set}
 use Rattle.numbers.specs.Choice.{pick}
 use Rattle.numbers.specs.Bits.{withBit}
 use Rattle.state.specs.declared.Control.{Control}
@@ -13,7 +13,6 @@ use Rattle.state.specs.State.{placeOf}
 use Rattle.opcodes.specs.declared.Instruction.{Instruction}
 use Rattle.element.specs.declared.Out.{Out}
 use Rattle.element.specs.Receives.{resultOf}
-use Rattle.machine.specs.declared.Progress.{Progress}
 use Rattle.machine.specs.Kind.{kindOf, isCompare, isMerge}
 use Rattle.machine.specs.Run.{Run, run, progress, withVmr, gathered}
 

@@ -12,7 +12,7 @@ ghost use mathlib.Core.Bool.{true, false, not, _&&_};
 ghost use Prim.Native.Nat.{ℕ, _<_, _≤_};
 ghost use Rattle.numbers.specs.Bits.{bit, chosen, OnesBelow};
 ghost use Rattle.machine.specs.Run.{run as runOf};
-ghost use Rattle.machine.specs.Kind.{kindOf, isMerge, isCompare, isIota};
+ghost use Rattle.machine.specs.Kind.{kindOf, isMerge, isIota};
 ghost use Rattle.machine.specs.Step.{registerBit, notes};
 ghost use Rattle.machine.specs.Instruction.{wholeOf, stepsIn};
 ghost use Rattle.machine.specs.Loops.{matched as matchedOf, effected as effectedOf, doneFor};

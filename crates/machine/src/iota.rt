@@ -6,7 +6,6 @@ ghost use mathlib.Core.Path.{_≡_};
 ghost use mathlib.Core.Bool.{true};
 ghost use Prim.Native.Nat.{ℕ, _*_, _+_, _%_, _^_, _<_, _≤_};
 ghost use lib.Count.{ones};
-ghost use Rattle.numbers.specs.Bits.{lowBits};
 ghost use Rattle.numbers.specs.Rising.{rising, ofOnes};
 ghost use Rattle.machine.specs.declared.Progress.{Progress};
 ghost use Rattle.machine.specs.Kind.{kindOf, isIota};
@@ -31,7 +30,7 @@ fn turn(elements: &mut [u64; 1024], stride: u32, vc: usize, i: usize, next: usiz
     elements[to] = numbers::halves::with_low(elements[to], multiple(i, stride));
 }
 
-// The walk over the ones of a set, rising.
+// The walk over the ones of a set, rising; gives how many there were.
 fn walk(elements: &mut [u64; 1024], which: u64, stride: u32, vc: usize) -> usize
     requires { ⌜ vc < 16 ⌝ }
     ensures { λ r. ⌜ wrote (now (elements .exit)) r ≡ rising (ofOnes (iotaTurn stride vc) which) 64 (wrote (now (elements .entry)) 0) ⌝ }

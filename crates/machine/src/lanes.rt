@@ -1,5 +1,6 @@
-// Works that write elements, for the elements of a set. The work's number is a constant where the loop of a short
-// work is called: the compiler makes a loop for each. The set of all elements below a length has loops of its own.
+// Works that write elements, for the elements of a set: short works, floating sums and differences, products, and conversions. The number of a
+// short work is a constant where its loop is called: the compiler makes a loop for each. For all elements below a length the short works have loops of
+// their own.
 use crate::operand;
 use element;
 use element::Out;
@@ -38,8 +39,8 @@ fn short(
     requires { ⌜ (vb < 16) × (vc < 16) × (i < 64) ⌝ }
     ensures { λ r. ⌜ lanes (now (elements .exit)) r ≡ laneWorked (oneAt code exc matches) a vb vc i (lanes (now (elements .entry)) types) ⌝ }
 {
-    let b = operand::own(&*elements, vb, i);
-    let c = operand::own(&*elements, vc, i);
+    let b = operand::element_of(&*elements, vb, i);
+    let c = operand::element_of(&*elements, vc, i);
     land(
         elements,
         types,
@@ -49,7 +50,7 @@ fn short(
     )
 }
 
-// Every element below n. The mask is halved at each, since vector code has no shift by another number for each element.
+// A short work of every element below n. The mask is halved at each, since vector code has no shift by another number for each element.
 fn every(
     elements: &mut [u64; 1024],
     code: u8,
@@ -87,7 +88,7 @@ fn every(
     types
 }
 
-// The elements of a set.
+// A short work of the elements of a set.
 fn chosen(
     elements: &mut [u64; 1024],
     code: u8,
@@ -138,12 +139,12 @@ fn total(
     requires { ⌜ (vb < 16) × (vc < 16) × (i < 64) ⌝ }
     ensures { λ r. ⌜ lanes (now (elements .exit)) r ≡ laneWorked (totalAt minus exc) a vb vc i (lanes (now (elements .entry)) types) ⌝ }
 {
-    let b = operand::own(&*elements, vb, i);
-    let c = operand::own(&*elements, vc, i);
+    let b = operand::element_of(&*elements, vb, i);
+    let c = operand::element_of(&*elements, vc, i);
     land(elements, types, element::total(minus, exc, a, b, c), vc, i)
 }
 
-// The elements of a set.
+// The sums of the elements of a set, or the differences.
 fn totals(
     elements: &mut [u64; 1024],
     minus: bool,
@@ -182,12 +183,12 @@ fn product(
     requires { ⌜ (vb < 16) × (vc < 16) × (i < 64) ⌝ }
     ensures { λ r. ⌜ lanes (now (elements .exit)) r ≡ laneWorked (productAt exc) a vb vc i (lanes (now (elements .entry)) types) ⌝ }
 {
-    let b = operand::own(&*elements, vb, i);
-    let c = operand::own(&*elements, vc, i);
+    let b = operand::element_of(&*elements, vb, i);
+    let c = operand::element_of(&*elements, vc, i);
     land(elements, types, element::product(exc, a, b, c), vc, i)
 }
 
-// The elements of a set.
+// The products of the elements of a set.
 fn products(
     elements: &mut [u64; 1024],
     exc: bool,
@@ -225,8 +226,8 @@ fn convert(
     requires { ⌜ (vb < 16) × (vc < 16) × (i < 64) ⌝ }
     ensures { λ r. ⌜ lanes (now (elements .exit)) r ≡ laneWorked (convertAt exc conversion) 0 vb vc i (lanes (now (elements .entry)) types) ⌝ }
 {
-    let b = operand::own(&*elements, vb, i);
-    let c = operand::own(&*elements, vc, i);
+    let b = operand::element_of(&*elements, vb, i);
+    let c = operand::element_of(&*elements, vc, i);
     land(
         elements,
         types,
@@ -236,7 +237,7 @@ fn convert(
     )
 }
 
-// The elements of a set.
+// One conversion of the elements of a set.
 fn converts(
     elements: &mut [u64; 1024],
     exc: bool,
@@ -274,18 +275,13 @@ fn conversions(
         5 => converts(elements, exc, 5, vb, vc, which),
         4 => converts(elements, exc, 4, vb, vc, which),
         1 => converts(elements, exc, 1, vb, vc, which),
+        // No accepted control word has another conversion.
         _ => converts(elements, exc, conversion, vb, vc, which),
     }
 }
 
 // The work of the elements of a set.
-pub fn some(
-    elements: &mut [u64; 1024],
-    instruction: Instruction,
-    x: u64,
-    mask: u64,
-    which: u64,
-) -> u64
+fn some(elements: &mut [u64; 1024], instruction: Instruction, x: u64, mask: u64, which: u64) -> u64
     requires { ⌜ (instruction .va .0 < 16) × (instruction .vb .0 < 16) × (instruction .vc .0 < 16) × (isCompare (kindOf (instruction .work)) ≡ false) ⌝ }
     ensures { λ r. ⌜ lanes (now (elements .exit)) r ≡ rising (ofOnes (laneStep (workAt (workNumber (instruction .work)) (instruction .exc) (instruction .va .0) mask) (instruction .scalar) x (instruction .va .0) (instruction .vb .0) (instruction .vc .0)) which) 64 (lanes (now (elements .entry)) 0) ⌝ }
 {
@@ -313,6 +309,7 @@ pub fn some(
             let conversion = instruction.va.0 as u64;
             conversions(elements, exc, conversion, vb, vc, which)
         }
+        // No register instruction has another number.
         _ => chosen(elements, code, exc, mask, scalar, x, va, vb, vc, which),
     }
 }

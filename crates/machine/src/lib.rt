@@ -27,7 +27,7 @@ pub enum Kind {
     Memory,
 }
 
-// Which elements of a range a compare finds in its relation, and which it refuses: the lowest is bit 0.
+// Which elements below a length a compare finds in its relation, and which it refuses: element i is bit i.
 pub struct Found {
     pub found: u64,
     pub refused: u64,

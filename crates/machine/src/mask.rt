@@ -34,7 +34,7 @@ fn one(
         code,
         relation,
         operand::first(elements, scalar, x, va, i),
-        operand::own(elements, vb, i),
+        operand::element_of(elements, vb, i),
     )
 }
 
@@ -90,6 +90,7 @@ fn longwords(
     }
 }
 
+// Longwords or F, by the work's number.
 fn either(
     elements: &[u64; 1024],
     code: u8,

@@ -5,7 +5,7 @@ ghost use Rattle.state.specs.Elements.{at};
 ghost use Rattle.machine.specs.Loops.{operandAt};
 
 // A register's element.
-pub fn own(elements: &[u64; 1024], register: usize, i: usize) -> u64
+pub fn element_of(elements: &[u64; 1024], register: usize, i: usize) -> u64
     requires { ⌜ (register < 16) × (i < 64) ⌝ }
     ensures { λ r. ⌜ r ≡ at (now (elements .entry)) register i ⌝ }
 {
@@ -17,6 +17,6 @@ pub fn first(elements: &[u64; 1024], scalar: bool, x: u64, va: usize, i: usize) 
     requires { ⌜ (va < 16) × (i < 64) ⌝ }
     ensures { λ r. ⌜ r ≡ operandAt scalar x va (now (elements .entry)) i ⌝ }
 {
-    let own = own(elements, va, i);
+    let own = element_of(elements, va, i);
     if scalar { x } else { own }
 }

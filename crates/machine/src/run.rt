@@ -17,7 +17,7 @@ pub fn begin(control: Control) -> Progress
     }
 }
 
-// What VAER gets of an element that recorded these types.
+// What VAER gets where these types were recorded.
 pub fn note(register: u64, types: u64) -> u64
     ensures { λ r. ⌜ r ≡ notesOf register types ⌝ }
 {

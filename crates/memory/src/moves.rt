@@ -1,6 +1,6 @@
 // What a memory instruction moves, once all operated elements are tested.
 ghost use mathlib.Core.Path.{_≡_};
-ghost use Prim.Native.Nat.{_+_, _≤_, _<_};
+ghost use Prim.Native.Nat.{_+_, _<_};
 ghost use lib.ListN.{length, getD};
 ghost use Rattle.numbers.specs.Bits.{bit};
 ghost use Rattle.memory.specs.Works.{sizeOf};

@@ -1,6 +1,6 @@
 // Stores: what the operated elements leave in the window, once all are tested.
 ghost use mathlib.Core.Path.{_≡_};
-ghost use Prim.Native.Nat.{_+_, _-_, _≤_, _<_};
+ghost use Prim.Native.Nat.{_+_, _-_, _<_};
 ghost use lib.ListN.{length, getD};
 ghost use Rattle.numbers.specs.Bits.{bit};
 ghost use Rattle.numbers.specs.Rising.{rising};

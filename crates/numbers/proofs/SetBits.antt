@@ -7,7 +7,7 @@ use native.Mathlib.Nat.{pow-suc, one-mul, zero-div, mod-lt}
 use native.Mathlib.Omega.{arith}
 use lib.Bits.{bitAnd, and-step, and-self}
 use lib.Count.{trailingZeros, under, trailing-of-zero}
-use lib.Dec.{eqb, ltb}
+use lib.Dec.{ltb}
 use lib.Pow.{pow-pos}
 use borrow.Author.Tests.{lt-ltb, le-ltb}
 use Rattle.numbers.specs.Bits.{bit, withoutBit, withBit, lowBits, complement, lowestOne, chosen, OnesBelow}

@@ -1,13 +1,11 @@
 -- Numbers as sets of bits: unions and sections. Assumes nothing.
-use mathlib.Core.Path.{_≡_, refl, sym, ap, ap₂, subst, _∙_}
+use mathlib.Core.Path.{_≡_, refl, sym, ap, ap₂, _∙_}
 use mathlib.Core.Bool.{Bool, true, false, not, _&&_, _||_}
 use mathlib.Core.Logic.{_⊎_, inl, inr}
-use Prim.Native.Nat.{ℕ, zero, suc, _+_, _-_, _*_, _/_, _%_, _^_, _<_, _≤_}
-use native.Mathlib.Nat.{div-eq-of-lt, zero-div, lt-of-lt-of-le, mul-mod-left, pow-suc, mod-lt}
-use native.Mathlib.Omega.{arith}
-use borrow.Author.Tests.{lt-ltb, le-ltb}
-use lib.Dec.{eqb, leb, ltb}
-use lib.Bits.{bitOr, bitAnd, or-shr, or-mod, and-shr, and-mod, and-lt, or-lt}
+use Prim.Native.Nat.{ℕ, _-_, _/_, _%_, _^_, _<_, _≤_}
+use native.Mathlib.Nat.{zero-div}
+use lib.Dec.{eqb}
+use lib.Bits.{bitOr, bitAnd, or-shr, or-mod, and-shr, and-mod}
 use Rattle.numbers.specs.Choice.{pick}
 use Rattle.numbers.specs.Bits.{bit, complement}
 use Rattle.numbers.proofs.BitLaws.{digit, digit-lt, of-digit, same-digits, bit-counts, bit-above, bit-complement}

@@ -21,7 +21,7 @@ withBit x i v = withoutBit x i + v * 2 ^ i
 abbrev pub lowBits : ℕ → ℕ → ℕ
 lowBits x n = x % 2 ^ n
 
--- x with every one of its w bits turned
+-- x, below 2^w, with every one of its w bits turned
 abbrev pub complement : ℕ → ℕ → ℕ
 complement w x = 2 ^ w - 1 - x
 

@@ -7,10 +7,10 @@ low x = x % 2 ^ 32
 abbrev pub high : ℕ → ℕ
 high x = x / 2 ^ 32
 
--- x with <31:0> replaced by v
+-- x with <31:0> replaced by v, which is below 2^32
 abbrev pub withLow : ℕ → ℕ → ℕ
 withLow x v = high x * 2 ^ 32 + v
 
--- x with <63:32> replaced by v
+-- x with <63:32> replaced by v, which is below 2^32
 abbrev pub withHigh : ℕ → ℕ → ℕ
 withHigh x v = v * 2 ^ 32 + low x

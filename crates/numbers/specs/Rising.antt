@@ -1,5 +1,4 @@
 -- Steps in rising order.
-use mathlib.Core.Bool.{Bool}
 use Prim.Native.Nat.{ℕ, zero, suc}
 use Rattle.numbers.specs.Bits.{bit}
 use Rattle.numbers.specs.Choice.{pick}

@@ -7,7 +7,7 @@ use lib.IntN.{ℤ, pos, negsuc, negℤ, _-ℤ_}
 use lib.Signed.{ltZ, leZ}
 use Rattle.numbers.specs.Choice.{pick}
 
--- a longword as a signed number: below 2^31 it is itself, else it is 2^32 less
+-- a longword, below 2^32, as a signed number: below 2^31 it is itself, else it is 2^32 less
 unfoldable pub signed : ℕ → ℤ
 signed x = pick (ltb x (2 ^ 31)) (pos x) (pos x -ℤ pos (2 ^ 32))
 

@@ -6,7 +6,7 @@ use mathlib.Core.List.{List, [], _∷_}
 use Prim.Native.Nat.{ℕ, _<_}
 use lib.Dec.{eqb}
 use Rattle.numbers.specs.Choice.{pick}
-use Rattle.state.specs.Answer.{Answer, done, reservedOpcode, reservedControlWord}
+use Rattle.state.specs.Answer.{done, reservedOpcode, reservedControlWord}
 use Rattle.opcodes.specs.declared.Work.{Work}
 use Rattle.opcodes.specs.declared.Instruction.{Instruction}
 use Rattle.opcodes.specs.declared.Opcode.{Opcode}
@@ -18,7 +18,7 @@ use Rattle.opcodes.specs.declared.Decoded.the-variants as decoded
 use Rattle.opcodes.specs.Opcodes.{Entry, forms, vector, scalar, table, among, listed, opcodeOf, odd}
 use Rattle.opcodes.specs.WorkNumbers.{numberOf, numbered}
 use Rattle.opcodes.specs.ControlWord.{refused, instructionOf, controlWordOf}
-use Rattle.opcodes.specs.Decoding.{decodedWord, decodedWith, decodedOf, opcodeAnswer, controlWordAnswer, decodedAnswer, opcodeCheck, controlWordCheck, checkWith, LookedUp, ControlWordRead, Decodes}
+use Rattle.opcodes.specs.Decoding.{decodedWord, decodedWith, decodedOf, opcodeAnswer, controlWordAnswer, decodedAnswer, checkWith, LookedUp, ControlWordRead, Decodes}
 use Rattle.opcodes.proofs.Rule.{looked-up}
 
 -- an opcode is accepted exactly when it stands in the table

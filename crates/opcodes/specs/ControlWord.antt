@@ -1,10 +1,9 @@
 -- Document 01, "Opcodes": the control word of an accepted opcode. Relations, conversions: "What an
 -- element receives"; gather with Vb = Vc: "Memory".
-use mathlib.Core.Bool.{Bool, true, false, not, _&&_, _||_}
+use mathlib.Core.Bool.{Bool, false, not, _&&_, _||_}
 use Prim.Native.Nat.{ℕ, _/_, _%_, _^_}
 use lib.Dec.{eqb}
 use Rattle.numbers.specs.Choice.{pick}
-use Rattle.state.specs.declared.Register.{Register}
 use Rattle.opcodes.specs.declared.Work.{Work}
 use Rattle.opcodes.specs.declared.Work.the-variants.{AddLongword, SubtractLongword, MultiplyLongword, CompareLongword, BitSet, ExclusiveOr, BitClear, ShiftRight, ShiftLeft, AddF, SubtractF, MultiplyF, CompareF, Convert, Iota, Merge, LoadLongword, LoadQuadword, StoreLongword, StoreQuadword}
 use Rattle.opcodes.specs.declared.Instruction.{Instruction}

@@ -1,6 +1,5 @@
 // Opcodes and control words: which instructions are accepted, and what they say.
 use state::Register;
-ghost use mathlib.Core.Path.{_≡_};
 ghost use Rattle.opcodes.specs.Decoding.{Decodes};
 
 pub mod control_word;

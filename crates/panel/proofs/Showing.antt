@@ -1,7 +1,7 @@
 -- What the tests of a reading tell, and the answer that each leads to. Assumes nothing.
 use mathlib.Core.Bool.{Bool, true, false, not}
-use mathlib.Core.Path.{_≡_, refl, sym, ap, subst, _∙_}
-use Prim.Native.Nat.{ℕ, _<_, _*_, _+_, _≤_}
+use mathlib.Core.Path.{_≡_, sym, ap, subst, _∙_}
+use Prim.Native.Nat.{ℕ, _<_}
 use native.Mathlib.Omega.{arith}
 use lib.Dec.{ltb}
 use lib.ListN.{getD}
@@ -9,8 +9,7 @@ use borrow.Author.Tests.{not-true, not-false, ltb-true}
 use Rattle.numbers.specs.Halves.{low}
 use Rattle.numbers.proofs.Tests.{and-left, and-right, pick-true, pick-false}
 use Rattle.state.specs.State.{State, inRange, placeOf}
-use Rattle.state.specs.Answer.{done, outOfRange, noSuchField}
-use Rattle.state.specs.Elements.{at}
+use Rattle.state.specs.Answer.{outOfRange, noSuchField}
 use Rattle.floating.specs.declared.Reading.{Reading}
 use Rattle.floating.specs.Format.{F}
 use Rattle.floating.specs.Reading.{Shows, longwordReading, bitsOf}

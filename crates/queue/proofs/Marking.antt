@@ -16,7 +16,7 @@ use lib.Pow.{pow-pos}
 use Rattle.numbers.proofs.BitLaws.{one-shifted, bit-complement}
 use Rattle.numbers.proofs.Sets.{bit-and, bit-none}
 use Rattle.queue.specs.declared.Verdict.the-variants.{Permitted, Refused}
-use Rattle.queue.specs.Order.{Mem, has, each, check}
+use Rattle.queue.specs.Order.{Mem, has, each}
 use Rattle.queue.specs.Touch.{position, element}
 use Rattle.queue.specs.Tables.{within, countBy, isStepBy, stepsBy, followsBy, verdictBy, hasCome, everywhere, ready, mayCome, Came, Started}
 use Rattle.queue.proofs.Tests.{and-none, or-always, T-true, each→, →each, has→mem, mem→has}

@@ -2,10 +2,10 @@
 use mathlib.Core.Path.{_≡_, refl, sym, ap, _∙_}
 use mathlib.Core.Bool.{Bool, true, false}
 use mathlib.Core.List.{List}
-use Prim.Native.Nat.{ℕ, zero, suc, _+_, _<_, _≤_}
+use Prim.Native.Nat.{ℕ, zero, suc, _<_, _≤_}
 use native.Mathlib.Omega.{arith}
 use lib.Dec.{lit<}
-use lib.ListN.{length, getD}
+use lib.ListN.{getD}
 use Rattle.numbers.specs.Choice.{pick}
 use Rattle.numbers.specs.Bits.{bit}
 use Rattle.numbers.specs.Rising.{rising, ofOnes}
@@ -18,7 +18,7 @@ use Rattle.opcodes.specs.ControlWord.{instructionOf}
 use Rattle.opcodes.specs.Decoding.{decodedOf}
 use Rattle.opcodes.proofs.Passed.{decoded-passed}
 use Rattle.machine.specs.Kind.{kindOf, isCompare, isIota}
-use Rattle.machine.specs.Run.{Run, run, gathered}
+use Rattle.machine.specs.Run.{Run, gathered}
 use Rattle.machine.specs.Step.{operated, received, written, worked, elementStep}
 use Rattle.machine.specs.Iota.{iotaStep}
 use Rattle.machine.specs.Instruction.{stepOf, stepsBelow, stepsIn, stepCount, wholeOf}

@@ -1,5 +1,5 @@
--- Which steps bind each other, from the kinds, forms and register numbers of their two instructions alone. The check of a list goes by this (specs/Tables.antt); that it
--- says the same as the places of specs/Touch.antt is proved in proofs/Binding.antt.
+-- Which steps bind each other, from the kinds, forms and register numbers of their two instructions alone: a closed form between the places of specs/Touch.antt
+-- (proofs/Binding.antt) and the tables of specs/Tables.antt (proofs/Noting.antt). No promise cites it.
 use mathlib.Core.Bool.{Bool, not, _&&_, _||_}
 use Prim.Native.Nat.{ℕ}
 use lib.Dec.{eqb}

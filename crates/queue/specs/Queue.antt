@@ -62,14 +62,13 @@ unfoldable pub positions : Queue → ℕ → Answer
 positions q zero = done 0
 positions q (suc n) = pick (fine (positions q n)) (atPosition q n) (positions q n)
 
+-- 12, 8, then 3, then the rest
+abbrev pub afterTests : Control → Queue → Answer → Answer
+afterTests c q rest = pick (inRange c) (pick (wellFormed q) (pick (enabled c) rest disabled) queueRefused) outOfRange
+
 -- 12, 8, then 3, then per position; a queue that gets none of these is accepted
 unfoldable pub acceptance : Control → Queue → Answer
-acceptance c q =
-    pick (inRange c)
-    (pick (wellFormed q)
-    (pick (enabled c) (positions q (size q)) disabled)
-    queueRefused)
-    outOfRange
+acceptance c q = afterTests c q (positions q (size q))
 
 -- the instruction at a position; for a refused one, which no accepted queue has, the other
 abbrev pub instructionOr : Instruction → Decoded → Instruction

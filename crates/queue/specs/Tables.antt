@@ -1,5 +1,5 @@
--- What the check of an order list computes with: numbers and sets of positions that are made once for a queue, and what has come of each position.
--- A set of positions is a number whose bit k says that position k is in it. No public promise cites this; proofs/Verdicts.antt proves that it is the check of specs/Order.antt.
+-- What the code of a queue computes with: the check's tables (proofs/Verdicts.antt proves that they give the check of specs/Order.antt), the stretches of a list's run
+-- (proofs/Stretches.antt) and acceptance (proofs/Accepting.antt). A set of positions is a number whose bit k says that position k is in it. No public promise cites this.
 use mathlib.Core.Path.{_≡_}
 use mathlib.Core.Bool.{Bool, true, false, not, _&&_, _||_}
 use mathlib.Core.List.{List}
@@ -11,15 +11,14 @@ use Rattle.numbers.specs.Choice.{pick}
 use Rattle.numbers.specs.Bits.{bit, complement}
 use Rattle.numbers.specs.Rising.{rising}
 use Rattle.state.specs.declared.Control.{Control}
-use Rattle.state.specs.Answer.{Answer, done, disabled, outOfRange}
-use Rattle.state.specs.State.{inRange, enabled}
+use Rattle.state.specs.Answer.{Answer, done}
 use Rattle.opcodes.specs.declared.Instruction.{Instruction}
 use Rattle.opcodes.specs.declared.Work.the-variants.{AddLongword}
 use Rattle.opcodes.specs.ControlWord.{instructionOf}
 use Rattle.machine.specs.Kind.{kindOf, isCompare, isMerge, isIota}
 use Rattle.machine.specs.Run.{Run}
 use Rattle.machine.specs.Instruction.{stepOf, stepsIn, wholeOf}
-use Rattle.queue.specs.Queue.{Queue, size, wellFormed, fine, acceptance, queueRefused, instructionAt}
+use Rattle.queue.specs.Queue.{Queue, size, fine, afterTests, acceptance, instructionAt}
 use Rattle.queue.specs.Order.{check, run}
 use Rattle.queue.specs.Touch.{position, element, passing, isConvert}
 use Rattle.queue.specs.declared.Verdict.{Verdict}
@@ -114,11 +113,11 @@ followsBy iotas bound a x =
 unfoldable pub verdictBy : ℕ → ℕ → ℕ → List ℕ → List ℕ → Verdict
 verdictBy n vlr iotas bound list = check (followsBy iotas bound) (stepsBy n vlr iotas) list
 
--- ---- what has come: for each element the set of the positions that hold no step of it up any more
+-- ---- what has come: for each element the set of the positions that no step of it has to wait for any more
 abbrev pub hasCome : List ℕ → ℕ → Bool
 hasCome came x = bit (getD came (element x) 0) (position x)
 
--- the positions that hold none of the first n elements up any more
+-- the positions that none of the first n elements has to wait for any more
 unfoldable pub everywhere : List ℕ → ℕ → ℕ
 everywhere came zero = 2 ^ 64 - 1
 everywhere came (suc n) = bitAnd (everywhere came n) (getD came n 0)
@@ -140,7 +139,7 @@ pub record Came (iota : Bool) (x : ℕ) (came came′ : List ℕ) : Type 0 where
   pub long : length came′ ≡ length came
   pub sets : (e : ℕ) → e < 64 → getD came′ e 0 ≡ joinedIf (iota || eqb e (element x)) (getD came e 0) (position x)
 
--- at the start only IOTAs hold the elements from VLR on up
+-- at the start: for the elements from VLR on only IOTAs are still to come
 pub record Started (vlr iotas : ℕ) (came came′ : List ℕ) : Type 0 where
   pub long : length came′ ≡ length came
   pub low : (e : ℕ) → e < vlr → getD came′ e 0 ≡ getD came e 0
@@ -155,7 +154,7 @@ abbrev pub throughBy : List Instruction → List ℕ → ℕ → Run → Run
 throughBy program scalars n r = rising (λ (k : ℕ) (x : Run). wholeOf (decodedAt program k) (getD scalars k 0) x) n r
 
 -- ---- a stretch of a list: entries in a row, of which those of one position are done together
--- x is one of the n entries from i on
+-- x is one of the n entries from i on, which are entries of the list
 unfoldable pub among : List ℕ → ℕ → ℕ → ℕ → Bool
 among list i zero x = false
 among list i (suc n) x = among list i n x || eqb x (getD list (i + n) 0)
@@ -169,7 +168,7 @@ pub record Gathered (list : List ℕ) (i n : ℕ) (sets : List ℕ) : Type 0 whe
 abbrev pub togetherBy : List Instruction → List ℕ → List ℕ → ℕ → Run → Run
 togetherBy program scalars sets n r = rising (λ (k : ℕ) (x : Run). stepsIn (getD sets k 0) (decodedAt program k) (getD scalars k 0) x) n r
 
--- of every stretch of the list: an IOTA has no element but 0, and the sets end where the entries end one after the other
+-- of every stretch of the list: an IOTA has no element but 0; and doing the sets position after position leaves what doing the entries one after the other leaves
 pub record Joins (program : List Instruction) (scalars list : List ℕ) (vlr : ℕ) : Type 0 where
   pub iotas : (i n : ℕ) (sets : List ℕ) → i + n ≤ length list → Gathered list i n sets → (p e : ℕ) → p < length scalars → e < 64
       → isIota (kindOf (decodedAt program p .work)) ≡ true → bit (getD sets p 0) e ≡ true → e ≡ 0
@@ -178,7 +177,7 @@ pub record Joins (program : List Instruction) (scalars list : List ℕ) (vlr : �
 
 -- ---- the tests before the positions of a queue: 12, 8, then 3
 unfoldable pub standing : Control → Queue → Answer
-standing c q = pick (inRange c) (pick (wellFormed q) (pick (enabled c) (done 0) disabled) queueRefused) outOfRange
+standing c q = afterTests c q (done 0)
 
 -- what a queue gets, and its decoded form where it is accepted
 pub record Accepts (c : Control) (q : Queue) (a : Answer) (program : List Instruction) : Type 0 where

@@ -47,6 +47,7 @@ pub struct Position {
     pub instruction: Instruction,
 }
 
+// A refused position, whose instruction is not looked at.
 fn refused(reply: Reply) -> Position
     ensures { λ r. ⌜ r .reply ≡ reply ⌝ }
 {

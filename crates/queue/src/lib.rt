@@ -76,7 +76,7 @@ pub fn run(
 }
 
 // A queue by a list of its steps: a permitted list ends in the state of the straight run, which is that of its entries done one
-// after the other; any other is refused with 9 and its first bad position.
+// after the other; any other is refused with 9 and its first bad position, or its length if steps are missing.
 pub fn run_order(
     elements: &mut [u64; 1024],
     control: Control,
@@ -102,6 +102,7 @@ pub fn run_order(
         bound[k] = bound::bind(instruction, k, &mut readers, &mut writers);
         k += 1;
     }
+    // Only IOTAs write the count, place 17.
     match order::check(opcodes.len(), control.vlr, writers[17], &bound, list) {
         Verdict::Permitted => {
             let program = accepted.program;

@@ -17,7 +17,7 @@ fn within(a: u64, b: u64) -> bool
     (a | b) == b
 }
 
-// At the start nothing has come, and only IOTAs hold the elements from VLR on up.
+// At the start nothing has come; for the elements from VLR on only IOTAs are still to come.
 fn start(came: &mut [u64; 64], vlr: u64, iotas: u64)
     requires { ⌜ (length (now came) ≡ 64) × (vlr ≤ 64) ⌝ }
     ensures { λ r. ⌜ Started vlr iotas (now (came .entry)) (now (came .exit)) ⌝ }
@@ -29,7 +29,7 @@ fn start(came: &mut [u64; 64], vlr: u64, iotas: u64)
     }
 }
 
-// The positions that hold no element up any more.
+// The positions that no element has to wait for any more.
 fn everywhere(came: &[u64; 64]) -> u64
     ensures { λ r. ⌜ r ≡ everywhereOf (now (came .entry)) 64 ⌝ }
 {
@@ -42,7 +42,7 @@ fn everywhere(came: &[u64; 64]) -> u64
     all
 }
 
-// Position p holds no element up any more.
+// No element has to wait for position p any more.
 fn release(came: &mut [u64; 64], p: usize)
     requires { ⌜ (length (now came) ≡ 64) × (p < 64) ⌝ }
     ensures { λ r. ⌜ (length (now (came .exit)) ≡ 64) × ((e : ℕ) → e < 64 → getD (now (came .exit)) e 0 ≡ joined (getD (now (came .entry)) e 0) p) ⌝ }
@@ -62,7 +62,7 @@ fn ready(bound: u64, came: u64, p: usize) -> bool
     !bits::bit(came, p) & within(bound, came)
 }
 
-// The IOTA at position p comes, if it may.
+// The IOTA of entry x comes, if it may.
 fn iota_comes(came: &mut [u64; 64], bound: u64, x: u64) -> bool
     requires { ⌜ (length (now came) ≡ 64) × (position x < 16) ⌝ }
     ensures { λ r. ⌜ (r ≡ (eqb (element x) 0 && readyOf bound (everywhereOf (now (came .entry)) 64) (position x))) × (r ≡ true → Came true x (now (came .entry)) (now (came .exit))) ⌝ }

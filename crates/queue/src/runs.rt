@@ -37,7 +37,7 @@ pub fn straight(
 // How many of the entries left are taken together: at most 256.
 fn stretch(left: usize) -> usize
     requires { ⌜ 0 < left ⌝ }
-    ensures { λ r. ⌜ (0 < r) × (r ≤ left) ⌝ }
+    ensures { λ r. ⌜ (0 < r) × (r ≤ left) × (r ≤ 256) ⌝ }
 {
     if left < 256 { left } else { 256 }
 }
@@ -80,7 +80,8 @@ fn together(
     progress
 }
 
-// The n entries of a list from i on. The steps of one instruction are done together, which ends where the entries end one after the other.
+// The n entries of a list from i on. The steps of one instruction are done together, position after position; it ends where the steps of the
+// entries, each on what the last one left, end.
 fn advance(
     elements: &mut [u64; 1024],
     begun: Progress,
@@ -101,7 +102,7 @@ fn advance(
     together(elements, begun, program, scalars, &sets)
 }
 
-// The steps of a list, each on what the last one left: a stretch of its entries at a time.
+// A permitted list, a stretch at a time, each on what the last one left; it ends where its steps, each on what the last one left, end.
 pub fn walk(
     elements: &mut [u64; 1024],
     begun: Progress,

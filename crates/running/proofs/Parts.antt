@@ -2,13 +2,13 @@
 use mathlib.Core.Bool.{Bool, true, _&&_, and-true}
 use mathlib.Core.Path.{_≡_, refl, sym, ap, _∙_}
 use mathlib.Core.List.{List, [], _∷_, _++_}
-use Prim.Native.Nat.{ℕ, zero, suc, _+_, _-_, _*_, _≤_, _<_}
+use Prim.Native.Nat.{ℕ, zero, suc, _+_, _-_, _*_, _≤_}
 use native.Mathlib.Numerals.{add-one}
 use native.Mathlib.Omega.{arith}
 use lib.Dec.{eqb}
 use lib.ListN.{length, getD, set, take, drop, length-set}
 use lib.Seq.{take-suc-set}
-use Rattle.numbers.specs.Bytes.{numberOf, allZero}
+use Rattle.numbers.specs.Bytes.{numberOf}
 use Rattle.numbers.proofs.Places.{places, valuesBelow}
 use Rattle.running.specs.Records.{recordAt, controlWordIn, scalarIn, unfilled, allUnfilled, each, filled}
 

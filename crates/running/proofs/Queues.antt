@@ -1,8 +1,8 @@
 -- The run of the records, and of an input. Assumes nothing.
 use mathlib.Core.Bool.{Bool, true, false, not, _&&_}
 use mathlib.Core.Path.{_≡_, refl, sym, ap, _∙_}
-use mathlib.Core.List.{List, []}
-use Prim.Native.Nat.{ℕ, _+_, _-_, _*_, _/_, _%_, _≤_, _<_}
+use mathlib.Core.List.{List}
+use Prim.Native.Nat.{ℕ, _-_, _*_, _/_, _%_, _≤_, _<_}
 use native.Mathlib.Omega.{arith}
 use lib.Dec.{leb, ltb, eqb}
 use lib.ListN.{length, take, drop, length-drop, drop-of-length-le}
@@ -15,12 +15,12 @@ use Rattle.state.specs.Answer.{Answer, answer, done, badFile}
 use Rattle.state.specs.State.{State, state}
 use Rattle.saved.specs.declared.Loaded.{Loaded}
 use Rattle.saved.specs.declared.Loaded.the-variants.{Done, BadRecord}
-use Rattle.saved.specs.Load.{accepted, leading, stateIn, loading, answerOf}
+use Rattle.saved.specs.Load.{accepted, leading, loading, answerOf}
 use Rattle.saved.proofs.Loading.{gives-state}
 use Rattle.saved.proofs.RoundTrip.{done-accepted, refused-at}
-use Rattle.queue.specs.Queue.{Queue, queueRefused}
+use Rattle.queue.specs.Queue.{queueRefused}
 use Rattle.queue.specs.Reply.{queue}
-use Rattle.queue.specs.Run.{Outcome, outcome, queueRun}
+use Rattle.queue.specs.Run.{outcome, queueRun}
 use Rattle.running.specs.Records.{opcodeAt, controlWordAt, scalarAt, allUnfilled, wellFormed, filled, each, queueIn}
 use Rattle.running.specs.Runner.{fileIn, recordsIn, fileSize, recordsRun, inputRun}
 use Rattle.running.proofs.Parts.{filled-length, filled-each}

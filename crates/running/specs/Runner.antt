@@ -1,10 +1,10 @@
 -- The runner: a saved file, then instruction records, run as one queue straight through; the answer and, on 0, the listing of the new state.
-use mathlib.Core.List.{List, [], _∷_, _++_}
+use mathlib.Core.List.{List, [], _++_}
 use Prim.Native.Nat.{ℕ, _/_}
 use lib.Dec.{leb, ltb}
 use lib.ListN.{length, take, drop, replicate}
 use Rattle.numbers.specs.Choice.{pick}
-use Rattle.state.specs.Answer.{Answer, badFile}
+use Rattle.state.specs.Answer.{badFile}
 use Rattle.state.specs.declared.Control.{Control}
 use Rattle.state.specs.State.{State, state, inRange}
 use Rattle.saved.specs.Load.{accepted, leading, stateIn}

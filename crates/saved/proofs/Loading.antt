@@ -7,13 +7,13 @@ use Prim.Native.Nat.{ℕ, zero, suc, _+_, _*_, _-_, _≤_, _<_}
 use native.Mathlib.Nat.{eq-or-lt-of-le, le-of-suc-le-suc, not-suc-le-zero}
 use native.Mathlib.Numerals.{add-one}
 use native.Mathlib.Omega.{arith}
-use lib.Dec.{eqb, leb, ltb}
+use lib.Dec.{eqb, leb}
 use lib.ListN.{length, take, drop, set, getD, length-append, drop-of-length-le}
 use lib.Seq.{drop-cons, set-at, append-snoc}
 use borrow.Author.Tests.{eq-eqb, ne-eqb, le-leb, lt-leb, eqb-true, leb-true}
 use Rattle.numbers.specs.Choice.{pick}
 use Rattle.numbers.proofs.Tests.{and-left, and-right, pick-true, pick-false}
-use Rattle.state.specs.Answer.{Answer, done, badFile}
+use Rattle.state.specs.Answer.{done, badFile}
 use Rattle.state.specs.State.{State, state}
 use Rattle.state.specs.declared.Control.{Control}
 use Rattle.saved.specs.Load.{recordAt, contentsIn, goodPart, goodRecord, leading, accepted, elementsIn, controlIn, firstContents, stateIn, loading}

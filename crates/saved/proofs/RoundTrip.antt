@@ -1,20 +1,20 @@
 -- Loading what was saved gives that state back, and a file that loads is the one its state would save. Assumes nothing.
 use mathlib.Core.Bool.{Bool, true, false, _&&_}
-use mathlib.Core.List.{List, [], _∷_, _++_}
+use mathlib.Core.List.{List, _++_}
 use mathlib.Core.Logic.{⊎-elim}
 use mathlib.Core.Path.{_≡_, refl, sym, ap, _∙_, subst}
-use Prim.Native.Nat.{ℕ, zero, suc, _+_, _*_, _-_, _/_, _%_, _^_, _≤_, _<_}
-use native.Mathlib.Nat.{eq-or-lt-of-le, le-of-suc-le-suc, not-suc-le-zero, le-refl}
+use Prim.Native.Nat.{ℕ, zero, suc, _+_, _*_, _-_, _^_, _≤_, _<_}
+use native.Mathlib.Nat.{eq-or-lt-of-le, le-of-suc-le-suc, not-suc-le-zero}
 use native.Mathlib.Omega.{arith}
 use lib.Dec.{eqb, leb, ltb}
-use lib.ListN.{length, getD, take, drop, set, length-append, length-drop, length-take, length-set, take-append-drop, List·getD-eq-default}
+use lib.ListN.{length, getD, take, drop, set, length-drop, length-set, take-append-drop, List·getD-eq-default}
 use lib.Seq.{take-all, take-at, drop-at, take-append-le, drop-append-le, drop-drop, take-add, length-take-le, getD-set-same, getD-set-other, ext-getD}
 use borrow.Author.Tests.{eq-eqb, eqb-true, leb-true, ltb-true, le-leb, lt-ltb}
 use Rattle.numbers.specs.Bytes.{Bytes, bytesOf, numberOf, allZero}
 use Rattle.numbers.specs.Choice.{pick}
 use Rattle.numbers.proofs.LittleEndian.{bytes-take, bytes-drop, number-back, bytes-back, zeros-back, number-below}
-use Rattle.numbers.proofs.Tests.{and-left, and-right, and-both, and-four, pick-true, pick-false, below-or-not}
-use Rattle.state.specs.Answer.{Answer, done, badFile, outOfRange}
+use Rattle.numbers.proofs.Tests.{and-left, and-right, and-both, and-four, pick-true, below-or-not}
+use Rattle.state.specs.Answer.{Answer, done, badFile}
 use Rattle.state.specs.State.{State, state, inRange, lengthInRange, vaerInRange, vpsrInRange}
 use Rattle.state.specs.declared.Control.{Control}
 use Rattle.saved.specs.File.{contentsOf, recordBytes, records, fileOf, Held}

@@ -1,7 +1,7 @@
 -- The loop that writes the records, and what saving comes to. Assumes nothing.
 use mathlib.Core.Bool.{Bool, true, false, not}
 use mathlib.Core.Path.{_≡_, refl, sym, ap, _∙_}
-use mathlib.Core.List.{List, [], _++_}
+use mathlib.Core.List.{List, _++_}
 use Prim.Native.Nat.{ℕ, zero, suc, _+_, _*_, _-_, _/_, _≤_, _<_}
 use native.Mathlib.Numerals.{add-one}
 use native.Mathlib.Omega.{arith}
@@ -13,7 +13,7 @@ use Rattle.numbers.specs.Over.{over}
 use Rattle.numbers.proofs.Tests.{pick-true, pick-false}
 use Rattle.numbers.proofs.Over.{over-over, part-over, length-over}
 use Rattle.numbers.specs.Choice.{pick}
-use Rattle.state.specs.Answer.{Answer, done, badFile, outOfRange}
+use Rattle.state.specs.Answer.{done, badFile, outOfRange}
 use Rattle.state.specs.State.{State, inRange}
 use Rattle.saved.specs.File.{contentsOf, recordBytes, records, fileOf}
 use Rattle.saved.specs.Save.{saving}

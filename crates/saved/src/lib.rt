@@ -7,7 +7,7 @@ ghost use Prim.Native.Nat.{_+_, _*_, _<_, _≤_};
 ghost use lib.ListN.{length};
 ghost use Rattle.state.specs.State.{state as stateOf};
 ghost use Rattle.numbers.specs.Over.{over};
-ghost use Rattle.saved.specs.File.{contentsOf, records, fileOf};
+ghost use Rattle.saved.specs.File.{contentsOf, fileOf};
 ghost use Rattle.saved.specs.Save.{saving, answerOf as savedAnswer};
 ghost use Rattle.saved.specs.Load.{recordAt, contentsIn, leading as leadingOf, elementsIn, controlIn, loading, answerOf as loadedAnswer};
 

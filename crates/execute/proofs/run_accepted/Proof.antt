@@ -1,8 +1,8 @@
 use Rattle.execute.proofs.Moving.{moving}
-use Rattle.execute.specs.Execute.{outcome, afterMove, accepted}
+use Rattle.execute.specs.Execute.{outcome, accepted}
 use Rattle.state.specs.State.{State}
-use Rattle.state.specs.Answer.{Answer, done}
-use mathlib.Core.Path.{ap, _∙_}
+use Rattle.state.specs.Answer.{done}
+use mathlib.Core.Path.{ap}
 use borrow.Author.Needs.{needs}
 use Rattle.execute.proofs.run_accepted.Statement.{statement}
 use Rattle.execute.proofs.run_accepted.Tie as tie

@@ -1,9 +1,8 @@
 -- `put_elements` meets its contract: after k turns the lines of the first k elements stand in the text. Assumes nothing.
-use mathlib.Core.Path.{_≡_, refl, _∙_}
+use mathlib.Core.Path.{_≡_, refl}
 use Prim.Native.Nat.{_≤_, _-_, _*_}
 use native.Mathlib.Omega.{arith}
 use lib.ListN.{length}
-use borrow.Author.Needs.{needs}
 use Rattle.listing.specs.Text.{elementLines}
 use Rattle.listing.specs.Wrote.{Wrote}
 use Rattle.listing.proofs.Listed.{starts, turns, ends}

@@ -1,5 +1,4 @@
 -- `element_line` meets its contract: its five writings follow one another. Assumes nothing.
-use native.Mathlib.Omega.{arith}
 use Rattle.listing.proofs.Writing.{element-wrote}
 use borrow.Author.Needs.{needs}
 use Rattle.listing.proofs.write.element_line.Statement.{statement}

@@ -1,9 +1,8 @@
 -- `number` meets its contract: writing the digits that are left always comes to the whole. Assumes nothing.
-use mathlib.Core.Path.{_≡_, refl, _∙_}
+use mathlib.Core.Path.{_≡_, refl}
 use Prim.Native.Nat.{_+_, _≤_, _-_}
 use native.Mathlib.Omega.{arith}
 use lib.ListN.{length, length-set}
-use borrow.Author.Needs.{needs}
 use Rattle.numbers.specs.Over.{over}
 use Rattle.listing.specs.Text.{digits}
 use Rattle.listing.proofs.Writing.{below-base, number-turns, number-ends}

@@ -3,11 +3,11 @@ use borrow.Author.Needs.{needs}
 use Rattle.machine.proofs.lanes.short.Statement.{statement}
 use Rattle.machine.proofs.lanes.short.Tie as tie
 
-own-requires : tie.Need-own-requires
-own-requires c κs = search needs
+element-of-requires : tie.Need-element-of-requires
+element-of-requires c κs = search needs
 
-own-requires-2 : tie.Need-own-requires-2
-own-requires-2 c κs = search needs
+element-of-requires-2 : tie.Need-element-of-requires-2
+element-of-requires-2 c κs = search needs
 
 short-requires : tie.Need-short-requires
 short-requires c κs = search needs
@@ -17,7 +17,7 @@ land-requires c κs = search needs
 
 returns : tie.Need-returns
 unfolding laneWorked
-returns c = rw (← (c .before .before .before .before .before .own .ensures), ← (c .before .before .before .own2 .ensures), ← (c .before .short .ensures)) (c .land .ensures)
+returns c = rw (← (c .before .before .before .before .before .element-of .ensures), ← (c .before .before .before .element-of2 .ensures), ← (c .before .short .ensures)) (c .land .ensures)
 
 pub short-spec : {M : Type 1} → statement M
-short-spec = tie.close (tie.spec own-requires own-requires-2 short-requires land-requires returns)
+short-spec = tie.close (tie.spec element-of-requires element-of-requires-2 short-requires land-requires returns)

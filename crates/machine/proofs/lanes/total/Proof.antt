@@ -3,11 +3,11 @@ use borrow.Author.Needs.{needs}
 use Rattle.machine.proofs.lanes.total.Statement.{statement}
 use Rattle.machine.proofs.lanes.total.Tie as tie
 
-own-requires : tie.Need-own-requires
-own-requires c κs = search needs
+element-of-requires : tie.Need-element-of-requires
+element-of-requires c κs = search needs
 
-own-requires-2 : tie.Need-own-requires-2
-own-requires-2 c κs = search needs
+element-of-requires-2 : tie.Need-element-of-requires-2
+element-of-requires-2 c κs = search needs
 
 total-requires : tie.Need-total-requires
 total-requires c κs = search needs
@@ -17,7 +17,7 @@ land-requires c κs = search needs
 
 returns : tie.Need-returns
 unfolding laneWorked
-returns c = rw (← (c .before .before .before .before .before .own .ensures), ← (c .before .before .before .own2 .ensures), ← (c .before .total .ensures)) (c .land .ensures)
+returns c = rw (← (c .before .before .before .before .before .element-of .ensures), ← (c .before .before .before .element-of2 .ensures), ← (c .before .total .ensures)) (c .land .ensures)
 
 pub total-spec : {M : Type 1} → statement M
-total-spec = tie.close (tie.spec own-requires own-requires-2 total-requires land-requires returns)
+total-spec = tie.close (tie.spec element-of-requires element-of-requires-2 total-requires land-requires returns)

@@ -1,5 +1,5 @@
 -- `accept` meets its contract: the loop passes the positions that get none of 1, 7, 2, and keeps the instruction of each. Assumes nothing.
-use mathlib.Core.Path.{_≡_, refl, sym, _∙_}
+use mathlib.Core.Path.{refl, sym, _∙_}
 use Prim.Native.Nat.{_-_}
 use borrow.Author.Needs.{needs}
 use borrow.Author.Tests.{not-true, not-false}

@@ -1,7 +1,6 @@
 -- `gather` meets its contract: after k turns the first k entries have joined. Assumes nothing.
 use mathlib.Core.Path.{refl}
 use Prim.Native.Nat.{_+_, _≤_, _-_}
-use native.Mathlib.Omega.{arith}
 use borrow.Author.Needs.{needs}
 use Rattle.queue.specs.Tables.{Gathered}
 use Rattle.queue.proofs.Gathering.{gathered-more, gathered-all}
