@@ -13,8 +13,8 @@ use Rattle.numbers.specs.Halves.{low}
 use Rattle.floating.specs.Format.{F, isReserved}
 use Rattle.floating.specs.Operations.{answered, sum, difference}
 use Rattle.floating.specs.declared.Compared.{Compared}
-use Rattle.element.specs.Receives.{coded, quiet, floatingOut, resultOf}
-use Rattle.element.specs.Groups.{shortWork, totalWork, compareWork}
+use Rattle.element.specs.Receives.{quiet, floatingOut, resultOf}
+use Rattle.element.specs.Groups.{coded, shortWork, totalWork, compareWork}
 
 pub coded-number : (w : Work) → coded (workNumber w) ≡ w
 unfolding coded

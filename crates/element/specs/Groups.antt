@@ -7,7 +7,7 @@ use lib.Dec.{eqb}
 use lib.ListN.{getD}
 use Rattle.numbers.specs.Choice.{pick}
 use Rattle.opcodes.specs.declared.Work.{Work}
-use Rattle.opcodes.specs.declared.Work.the-variants.{AddLongword, SubtractLongword, MultiplyLongword, CompareLongword, BitSet, ExclusiveOr, BitClear, ShiftRight, ShiftLeft, AddF, SubtractF, CompareF, Iota, Merge}
+use Rattle.opcodes.specs.declared.Work.the-variants.{AddLongword, SubtractLongword, MultiplyLongword, CompareLongword, BitSet, ExclusiveOr, BitClear, ShiftRight, ShiftLeft, AddF, SubtractF, MultiplyF, CompareF, Convert, Iota, Merge, LoadLongword, LoadQuadword, StoreLongword, StoreQuadword}
 
 -- the short work of a number; Iota, which leaves an element as it was, stands for none
 unfoldable pub shortWork : ℕ → Work
@@ -41,3 +41,32 @@ totalWork minus = pick minus SubtractF AddF
 -- the compare of a number: 4 is the longword's, any other F's
 abbrev pub compareWork : ℕ → Work
 compareWork n = pick (eqb n 4) CompareLongword CompareF
+
+-- the work of each number of the opcode table; a number of none stands for one that leaves an element as it was
+unfoldable pub coded : ℕ → Work
+coded n =
+    getD
+    (Iota
+    ∷ AddLongword
+    ∷ SubtractLongword
+    ∷ MultiplyLongword
+    ∷ CompareLongword
+    ∷ BitSet
+    ∷ ExclusiveOr
+    ∷ BitClear
+    ∷ ShiftRight
+    ∷ ShiftLeft
+    ∷ AddF
+    ∷ SubtractF
+    ∷ MultiplyF
+    ∷ CompareF
+    ∷ Convert
+    ∷ Iota
+    ∷ Merge
+    ∷ LoadLongword
+    ∷ LoadQuadword
+    ∷ StoreLongword
+    ∷ StoreQuadword
+    ∷ [])
+    n
+    Iota

@@ -1,10 +1,8 @@
 -- Document 01, "What an element receives": the work of one element, over what it reads there. a is Va's element or the scalar, b is Vb's, c is Vc's own.
 use mathlib.Core.Bool.{Bool, _&&_}
-use mathlib.Core.List.{[], _∷_}
 use Prim.Native.Nat.{ℕ}
 use lib.Dec.{eqb}
 use lib.IntN.{ℤ}
-use lib.ListN.{getD}
 use Rattle.numbers.specs.Choice.{pick}
 use Rattle.numbers.specs.Halves.{low, withLow}
 use Rattle.numbers.specs.Signed.{low32, overflows}
@@ -69,32 +67,3 @@ resultOf LoadLongword exc field matches a b c = quiet c
 resultOf LoadQuadword exc field matches a b c = quiet c
 resultOf StoreLongword exc field matches a b c = quiet c
 resultOf StoreQuadword exc field matches a b c = quiet c
-
--- the work of each number of the opcode table; a number of none stands for one that leaves an element as it was
-unfoldable pub coded : ℕ → Work
-coded n =
-    getD
-    (Iota
-    ∷ AddLongword
-    ∷ SubtractLongword
-    ∷ MultiplyLongword
-    ∷ CompareLongword
-    ∷ BitSet
-    ∷ ExclusiveOr
-    ∷ BitClear
-    ∷ ShiftRight
-    ∷ ShiftLeft
-    ∷ AddF
-    ∷ SubtractF
-    ∷ MultiplyF
-    ∷ CompareF
-    ∷ Convert
-    ∷ Iota
-    ∷ Merge
-    ∷ LoadLongword
-    ∷ LoadQuadword
-    ∷ StoreLongword
-    ∷ StoreQuadword
-    ∷ [])
-    n
-    Iota

@@ -9,8 +9,8 @@ use Rattle.numbers.specs.Bits.{bit, lowBits}
 use Rattle.numbers.specs.Rising.{rising, ofOnes}
 use Rattle.numbers.proofs.SetBits.{ones-alike, all-below}
 use Rattle.element.specs.declared.Out.{Out}
-use Rattle.element.specs.Receives.{resultOf, coded}
-use Rattle.element.specs.Groups.{shortWork}
+use Rattle.element.specs.Receives.{resultOf}
+use Rattle.element.specs.Groups.{coded, shortWork}
 use Rattle.element.proofs.Codes.{NoneOf, valueNumbers, is-idle}
 use Rattle.machine.specs.Loops.{operandAt, Lanes, landed, laneWorked, laneStep, oneAt, shortAt, convertAt, workAt}
 use Rattle.state.specs.Elements.{at}

@@ -16,7 +16,8 @@ use Rattle.opcodes.specs.declared.Work.{Work}
 use Rattle.opcodes.specs.declared.Instruction.{Instruction}
 use Rattle.opcodes.specs.WorkNumbers.{workNumber}
 use Rattle.element.specs.declared.Out.{Out}
-use Rattle.element.specs.Receives.{resultOf, coded}
+use Rattle.element.specs.Groups.{coded}
+use Rattle.element.specs.Receives.{resultOf}
 use Rattle.element.proofs.Codes.{coded-number}
 use Rattle.machine.specs.declared.Effect.{Effect}
 use Rattle.machine.specs.declared.Progress.{Progress}

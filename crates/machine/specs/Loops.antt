@@ -12,8 +12,8 @@ use Rattle.state.specs.Elements.{at}
 use Rattle.opcodes.specs.declared.Instruction.{Instruction}
 use Rattle.opcodes.specs.declared.Work.the-variants.{MultiplyF, Convert}
 use Rattle.element.specs.declared.Out.{Out}
-use Rattle.element.specs.Receives.{resultOf, coded}
-use Rattle.element.specs.Groups.{shortWork, totalWork, compareWork}
+use Rattle.element.specs.Receives.{resultOf}
+use Rattle.element.specs.Groups.{coded, shortWork, totalWork, compareWork}
 use Rattle.machine.specs.declared.Effect.{Effect}
 use Rattle.machine.specs.declared.Progress.{Progress}
 use Rattle.machine.specs.Kind.{kindOf, isIota}

@@ -12,20 +12,20 @@ use Rattle.numbers.specs.Choice.{pick}
 use Rattle.state.specs.declared.Control.{Control}
 use Rattle.state.specs.Answer.{Answer, done, disabled, outOfRange}
 use Rattle.state.specs.State.{inRange, enabled}
+use Rattle.opcodes.specs.Decoding.{controlWordAnswer}
 use Rattle.opcodes.specs.declared.Work.{Work}
-use Rattle.opcodes.specs.declared.Work.the-variants.{AddLongword}
 use Rattle.opcodes.specs.declared.Instruction.{Instruction}
 use Rattle.opcodes.specs.declared.Opcode.{Opcode}
 use Rattle.opcodes.specs.declared.Opcode.the-variants as opcode
 use Rattle.opcodes.specs.declared.ControlWord.{ControlWord}
 use Rattle.opcodes.specs.declared.ControlWord.the-variants as word
 use Rattle.opcodes.specs.Opcodes.{opcodeOf, isMemory}
-use Rattle.opcodes.specs.ControlWord.{instructionOf, controlWordOf}
+use Rattle.opcodes.specs.ControlWord.{controlWordOf}
 use Rattle.opcodes.specs.Decoding.{decodedWord, decodedWith, decodedOf, LookedUp, ControlWordRead}
 use Rattle.queue.specs.declared.Reply.{Reply}
 use Rattle.queue.specs.declared.Reply.the-variants as reply
-use Rattle.queue.specs.Queue.{Queue, size, instructionOr, wellFormed, ofWord, ofOpcode, atPosition, fine, positions, acceptance, queueRefused}
-use Rattle.queue.specs.Reply.{replyAnswer, instructionFrom}
+use Rattle.queue.specs.Queue.{standIn, instructionFrom, Queue, size, instructionOr, wellFormed, ofOpcode, atPosition, fine, positions, acceptance, queueRefused}
+use Rattle.queue.specs.Reply.{replyAnswer}
 use Rattle.queue.specs.Tables.{standing}
 
 -- one position
@@ -34,15 +34,15 @@ module _ (p k c : ℕ) (o : Opcode) (looked : LookedUp k o) where
   opcode-reserved e = ap (λ (v : Opcode). ofOpcode p v c) (sym e ∙ looked .result)
 
   module _ (w : Work) (s : Bool) (accepted : o ≡ opcode.Accepted w s) (m : Bool) (memory : m ≡ isMemory w) where
-    said : pick m (replyAnswer (reply.MemoryOpcode p)) (ofWord p (controlWordOf w s c)) ≡ ofOpcode p (opcodeOf k) c
+    said : pick m (replyAnswer (reply.MemoryOpcode p)) (controlWordAnswer p (controlWordOf w s c)) ≡ ofOpcode p (opcodeOf k) c
     said = rw memory (ap (λ (v : Opcode). ofOpcode p v c) (sym accepted ∙ looked .result))
 
     pub opcode-memory : m ≡ true → replyAnswer (reply.MemoryOpcode p) ≡ ofOpcode p (opcodeOf k) c
     opcode-memory e = rw e at said
 
     module _ (other : m ≡ false) (q : ControlWord) (read : ControlWordRead w s c q) where
-      worded : ofWord p q ≡ ofOpcode p (opcodeOf k) c
-      worded = ap (ofWord p) (read .result) ∙ (rw other at said)
+      worded : controlWordAnswer p q ≡ ofOpcode p (opcodeOf k) c
+      worded = ap (controlWordAnswer p) (read .result) ∙ (rw other at said)
 
       pub word-reserved : q ≡ word.Reserved → replyAnswer (reply.ReservedControlWord p) ≡ ofOpcode p (opcodeOf k) c
       word-reserved e = rw e at worded
@@ -52,7 +52,7 @@ module _ (p k c : ℕ) (o : Opcode) (looked : LookedUp k o) where
 
       pub word-decoded : (i : Instruction) → q ≡ word.Accepted i → i ≡ instructionFrom k c
       unfolding decodedOf
-      word-decoded i e = ap (instructionOr (instructionOf AddLongword false 0)) (ap decodedWord (sym e ∙ read .result) ∙ ap (decodedWith c) (sym accepted ∙ looked .result))
+      word-decoded i e = ap (instructionOr standIn) (ap decodedWord (sym e ∙ read .result) ∙ ap (decodedWith c) (sym accepted ∙ looked .result))
 
 -- a refused position has no instruction
 pub none-decoded : (r s : Reply) (a : Answer) (i j : Instruction) → r ≡ s → fine (replyAnswer s) ≡ false → replyAnswer s ≡ a → (replyAnswer r ≡ a) × (fine (replyAnswer r) ≡ true → i ≡ j)

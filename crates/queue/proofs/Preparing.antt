@@ -12,19 +12,17 @@ use Rattle.state.specs.declared.Control.{Control}
 use Rattle.state.specs.Answer.{done}
 use Rattle.state.specs.State.{state}
 use Rattle.opcodes.specs.declared.Instruction.{Instruction}
-use Rattle.opcodes.specs.declared.Work.the-variants.{AddLongword}
 use Rattle.opcodes.specs.Opcodes.{opcodeOf}
-use Rattle.opcodes.specs.ControlWord.{instructionOf}
 use Rattle.machine.specs.declared.Progress.{Progress}
 use Rattle.machine.specs.Run.{run, progress, ended}
 use Rattle.queue.specs.declared.Reply.{Reply}
 use Rattle.queue.specs.declared.Verdict.{Verdict}
 use Rattle.queue.specs.declared.Verdict.the-variants as verdict
-use Rattle.queue.specs.Queue.{Queue, size, ofOpcode, fine, positions, acceptance, instructionAt}
+use Rattle.queue.specs.Queue.{standIn, instructionFrom, Queue, size, ofOpcode, fine, positions, acceptance, instructionAt}
 use Rattle.queue.specs.Run.{outcome, orderRefused, verdictOf, orderedRun}
 use Rattle.queue.specs.Order.{run as walkOf}
 use Rattle.queue.specs.Touch.{position}
-use Rattle.queue.specs.Reply.{replyAnswer, instructionFrom}
+use Rattle.queue.specs.Reply.{replyAnswer}
 use Rattle.queue.specs.Binds.{binds}
 use Rattle.queue.specs.Tables.{Joins, Below, decodedAt, readersWith, writersWith, boundTo, verdictBy, actBy, standing, Accepts}
 use Rattle.queue.proofs.Accepting.{Lengths, position-passes, position-stops, position-last, by-standing, by-position}
@@ -47,7 +45,7 @@ module _ (q : Queue) where
     pub lengths : Lengths q
     pub inside : k ≤ size q
     pub passed : positions q k ≡ done 0
-    pub decoded : Filled (instructionOf AddLongword false 0) decodes program k
+    pub decoded : Filled standIn decodes program k
 
   pub decoded-none : Lengths q → (program : List Instruction) → length program ≡ 16 → Decoded program 0
   unfolding positions

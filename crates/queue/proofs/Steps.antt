@@ -2,22 +2,20 @@
 -- Assumes nothing.
 use mathlib.Core.Path.{_≡_, refl, sym, ap, subst}
 use mathlib.Core.Logic.{inl, inr, ⊎-elim}
-use mathlib.Core.Bool.{Bool, false, _&&_}
+use mathlib.Core.Bool.{Bool, _&&_}
 use mathlib.Core.List.{List, _∷_}
 use Prim.Native.Nat.{ℕ, zero, suc, _+_, _*_, _<_, _≤_, zero-le}
 use native.Mathlib.Omega.{arith}
 use native.Mathlib.Decide.{ℕ-discrete}
 use lib.Dec.{T, ltb, ltb→lt, lt→ltb}
 use lib.ListN.{getD}
-use Rattle.opcodes.specs.declared.Work.the-variants.{AddLongword}
 use Rattle.opcodes.specs.declared.Instruction.{Instruction}
 use Rattle.opcodes.specs.declared.Decoded.{Decoded}
 use Rattle.opcodes.specs.declared.Decoded.the-variants as decoded
-use Rattle.opcodes.specs.ControlWord.{instructionOf}
 use Rattle.opcodes.specs.Decoding.{decodedOf}
 use Rattle.opcodes.proofs.Passed.{decoded-passed}
 use Rattle.machine.specs.Instruction.{stepCount}
-use Rattle.queue.specs.Queue.{Queue, size, instructionOr, instructionAt}
+use Rattle.queue.specs.Queue.{standIn, Queue, size, instructionOr, instructionAt}
 use Rattle.queue.specs.Order.{Mem, has}
 use Rattle.queue.specs.Touch.{position, element, isStep, passing, stepsOf, reads, writes, conflict, mustFollow}
 use Rattle.queue.specs.Binds.{bound}
@@ -36,10 +34,10 @@ registers-at q k =
     let p = decoded-passed (getD (q .opcodes) k 0) (getD (q .controlWords) k 0) i e .read .passed in
     record { va = p .va-below; vb = p .vb-below; vc = p .vc-below })
   where
-    none : Registers (instructionOf AddLongword false 0)
+    none : Registers standIn
     none = record { va = omega arith; vb = omega arith; vc = omega arith }
 
-    go : (d : Decoded) → ((i : Instruction) → d ≡ decoded.Accepted i → Registers i) → Registers (instructionOr (instructionOf AddLongword false 0) d)
+    go : (d : Decoded) → ((i : Instruction) → d ≡ decoded.Accepted i → Registers i) → Registers (instructionOr standIn d)
     go decoded.ReservedOpcode f = none
     go decoded.ReservedControlWord f = none
     go (decoded.Accepted i) f = f i refl

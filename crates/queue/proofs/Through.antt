@@ -13,8 +13,6 @@ use Rattle.numbers.proofs.Rising.{starts, settles, carries}
 use Rattle.opcodes.specs.declared.Instruction.{Instruction}
 use Rattle.opcodes.specs.declared.Decoded.{Decoded}
 use Rattle.opcodes.specs.declared.Decoded.the-variants as decoded
-use Rattle.opcodes.specs.declared.Work.the-variants.{AddLongword}
-use Rattle.opcodes.specs.ControlWord.{instructionOf}
 use Rattle.opcodes.specs.Decoding.{decodedOf}
 use Rattle.opcodes.proofs.Passed.{decoded-passed}
 use Rattle.machine.specs.Kind.{kindOf, isCompare, isIota}
@@ -22,15 +20,14 @@ use Rattle.machine.specs.Run.{Run, gathered}
 use Rattle.machine.specs.Step.{operated, received, written, worked, elementStep}
 use Rattle.machine.specs.Iota.{iotaStep}
 use Rattle.machine.specs.Instruction.{stepOf, stepsBelow, stepsIn, stepCount, wholeOf}
-use Rattle.queue.specs.Queue.{Queue, size, instructionOr, instructionAt, scalarAt, straight}
-use Rattle.queue.specs.Reply.{instructionFrom}
+use Rattle.queue.specs.Queue.{standIn, instructionFrom, Queue, size, instructionOr, instructionAt, scalarAt, straight}
 use Rattle.queue.specs.Tables.{Below, decodedAt, throughBy}
 
 -- register numbers are below 16
 pub from-below : (k c : ℕ) → Below (instructionFrom k c)
 from-below k c = go (decodedOf k c) refl
   where
-    go : (d : Decoded) → decodedOf k c ≡ d → Below (instructionOr (instructionOf AddLongword false 0) d)
+    go : (d : Decoded) → decodedOf k c ≡ d → Below (instructionOr standIn d)
     go decoded.ReservedOpcode e = record { va = lit< tt; vb = lit< tt; vc = lit< tt }
     go decoded.ReservedControlWord e = record { va = lit< tt; vb = lit< tt; vc = lit< tt }
     go (decoded.Accepted i) e =

@@ -6,19 +6,17 @@ use lib.Dec.{leb, eqb}
 use lib.ListN.{length, getD}
 use Rattle.numbers.specs.Choice.{pick}
 use Rattle.state.specs.declared.Control.{Control}
-use Rattle.state.specs.Answer.{Answer, answer, done, reservedOpcode, reservedControlWord, disabled, outOfRange}
+use Rattle.state.specs.Answer.{Answer, answer, done, reservedOpcode, disabled, outOfRange}
 use Rattle.state.specs.State.{inRange, enabled}
 use Rattle.opcodes.specs.declared.Instruction.{Instruction}
 use Rattle.opcodes.specs.declared.Opcode.{Opcode}
 use Rattle.opcodes.specs.declared.Opcode.the-variants as opcode
-use Rattle.opcodes.specs.declared.ControlWord.{ControlWord}
-use Rattle.opcodes.specs.declared.ControlWord.the-variants as word
 use Rattle.opcodes.specs.Opcodes.{opcodeOf, isMemory}
 use Rattle.opcodes.specs.declared.Work.the-variants.{AddLongword}
 use Rattle.opcodes.specs.declared.Decoded.{Decoded}
 use Rattle.opcodes.specs.declared.Decoded.the-variants as decoded
 use Rattle.opcodes.specs.ControlWord.{instructionOf, controlWordOf}
-use Rattle.opcodes.specs.Decoding.{decodedOf}
+use Rattle.opcodes.specs.Decoding.{decodedOf, controlWordAnswer}
 use Rattle.machine.specs.Run.{Run}
 use Rattle.machine.specs.Instruction.{wholeOf}
 
@@ -43,13 +41,9 @@ abbrev pub wellFormed : Queue → Bool
 wellFormed q = leb (size q) 16 && eqb (length (q .controlWords)) (size q) && eqb (length (q .scalars)) (size q)
 
 -- what one position gets: 1, 7, 2, or none of these
-abbrev pub ofWord : ℕ → ControlWord → Answer
-ofWord position word.Reserved = reservedControlWord position
-ofWord position (word.Accepted i) = done 0
-
 abbrev pub ofOpcode : ℕ → Opcode → ℕ → Answer
 ofOpcode position opcode.Reserved c = reservedOpcode position
-ofOpcode position (opcode.Accepted w s) c = pick (isMemory w) (memoryOpcode position) (ofWord position (controlWordOf w s c))
+ofOpcode position (opcode.Accepted w s) c = pick (isMemory w) (memoryOpcode position) (controlWordAnswer position (controlWordOf w s c))
 
 unfoldable pub atPosition : Queue → ℕ → Answer
 atPosition q k = ofOpcode k (opcodeOf (getD (q .opcodes) k 0)) (getD (q .controlWords) k 0)
@@ -70,14 +64,22 @@ afterTests c q rest = pick (inRange c) (pick (wellFormed q) (pick (enabled c) re
 unfoldable pub acceptance : Control → Queue → Answer
 acceptance c q = afterTests c q (positions q (size q))
 
--- the instruction at a position; for a refused one, which no accepted queue has, the other
+-- the instruction that stands for a refused one, which no accepted queue has
+abbrev pub standIn : Instruction
+standIn = instructionOf AddLongword false 0
+
 abbrev pub instructionOr : Instruction → Decoded → Instruction
 instructionOr other decoded.ReservedOpcode = other
 instructionOr other decoded.ReservedControlWord = other
 instructionOr other (decoded.Accepted i) = i
 
+-- the instruction of an opcode and a control word
+abbrev pub instructionFrom : ℕ → ℕ → Instruction
+instructionFrom o c = instructionOr standIn (decodedOf o c)
+
+-- at a position
 unfoldable pub instructionAt : Queue → ℕ → Instruction
-instructionAt q k = instructionOr (instructionOf AddLongword false 0) (decodedOf (getD (q .opcodes) k 0) (getD (q .controlWords) k 0))
+instructionAt q k = instructionFrom (getD (q .opcodes) k 0) (getD (q .controlWords) k 0)
 
 abbrev pub scalarAt : Queue → ℕ → ℕ
 scalarAt q k = getD (q .scalars) k 0

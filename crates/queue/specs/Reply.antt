@@ -1,15 +1,10 @@
 -- Document 01, "Numbers given back": the number of each reply of a call on a queue, and what stands beside it. And a queue made of its parts.
-use mathlib.Core.Bool.{false}
 use mathlib.Core.List.{List}
 use Prim.Native.Nat.{ℕ}
 use Rattle.state.specs.Answer.{Answer, done, reservedOpcode, reservedControlWord, disabled, outOfRange}
-use Rattle.opcodes.specs.declared.Instruction.{Instruction}
-use Rattle.opcodes.specs.declared.Work.the-variants.{AddLongword}
-use Rattle.opcodes.specs.ControlWord.{instructionOf}
-use Rattle.opcodes.specs.Decoding.{decodedOf}
 use Rattle.queue.specs.declared.Reply.{Reply}
 use Rattle.queue.specs.declared.Reply.the-variants as reply
-use Rattle.queue.specs.Queue.{Queue, queueRefused, memoryOpcode, instructionOr}
+use Rattle.queue.specs.Queue.{Queue, queueRefused, memoryOpcode}
 use Rattle.queue.specs.Run.{orderRefused}
 
 abbrev pub replyAnswer : Reply → Answer
@@ -24,7 +19,3 @@ replyAnswer (reply.OrderRefused place) = orderRefused place
 
 abbrev pub queue : List ℕ → List ℕ → List ℕ → Queue
 queue o c s = record { opcodes = o; controlWords = c; scalars = s }
-
--- the instruction of an opcode and a control word; for refused ones, the other. `instructionAt` has it at a position
-abbrev pub instructionFrom : ℕ → ℕ → Instruction
-instructionFrom o c = instructionOr (instructionOf AddLongword false 0) (decodedOf o c)

@@ -13,12 +13,10 @@ use Rattle.numbers.specs.Rising.{rising}
 use Rattle.state.specs.declared.Control.{Control}
 use Rattle.state.specs.Answer.{Answer, done}
 use Rattle.opcodes.specs.declared.Instruction.{Instruction}
-use Rattle.opcodes.specs.declared.Work.the-variants.{AddLongword}
-use Rattle.opcodes.specs.ControlWord.{instructionOf}
 use Rattle.machine.specs.Kind.{kindOf, isCompare, isMerge, isIota}
 use Rattle.machine.specs.Run.{Run}
 use Rattle.machine.specs.Instruction.{stepOf, stepsIn, wholeOf}
-use Rattle.queue.specs.Queue.{Queue, size, fine, afterTests, acceptance, instructionAt}
+use Rattle.queue.specs.Queue.{standIn, Queue, size, fine, afterTests, acceptance, instructionAt}
 use Rattle.queue.specs.Order.{check, run}
 use Rattle.queue.specs.Touch.{position, element, passing, isConvert}
 use Rattle.queue.specs.declared.Verdict.{Verdict}
@@ -36,7 +34,7 @@ within a b = eqb (bitOr a b) b
 
 -- the instruction at a position of a decoded queue
 abbrev pub decodedAt : List Instruction → ℕ → Instruction
-decodedAt program k = getD program k (instructionOf AddLongword false 0)
+decodedAt program k = getD program k standIn
 
 -- register numbers are below 16
 pub record Below (ins : Instruction) : Type 0 where

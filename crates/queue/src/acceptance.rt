@@ -10,12 +10,10 @@ use state;
 use state::Control;
 use state::Register;
 ghost use mathlib.Core.Path.{_≡_};
-ghost use mathlib.Core.Bool.{true, false};
-ghost use Rattle.opcodes.specs.declared.Work.the-variants.{AddLongword};
-ghost use Rattle.opcodes.specs.ControlWord.{instructionOf};
+ghost use mathlib.Core.Bool.{true};
 ghost use Rattle.opcodes.specs.Opcodes.{opcodeOf};
-ghost use Rattle.queue.specs.Queue.{wellFormed, ofOpcode, fine};
-ghost use Rattle.queue.specs.Reply.{queue, replyAnswer, instructionFrom};
+ghost use Rattle.queue.specs.Queue.{standIn, instructionFrom, wellFormed, ofOpcode, fine};
+ghost use Rattle.queue.specs.Reply.{queue, replyAnswer};
 ghost use Rattle.queue.specs.Tables.{standing, Accepts};
 
 // At most 16 instructions, and parts of equal length.
@@ -27,7 +25,7 @@ fn well_formed(opcodes: &[u8], cntrls: &[u16], scalars: &[u64]) -> bool
 
 // The instruction that stands for a refused one, which no accepted queue has.
 fn other() -> Instruction
-    ensures { λ r. ⌜ r ≡ instructionOf AddLongword false 0 ⌝ }
+    ensures { λ r. ⌜ r ≡ standIn ⌝ }
 {
     Instruction {
         work: Work::AddLongword,

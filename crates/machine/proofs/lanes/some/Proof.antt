@@ -1,6 +1,6 @@
 use mathlib.Core.Path.{refl}
-use Rattle.element.specs.Receives.{resultOf, coded}
-use Rattle.element.specs.Groups.{shortWork}
+use Rattle.element.specs.Receives.{resultOf}
+use Rattle.element.specs.Groups.{coded, shortWork}
 use Rattle.machine.proofs.LaneLoops.{short-chosen, floating-chosen, idle-chosen, convert-chosen}
 use Rattle.machine.proofs.WorkKinds.{not-compare}
 use borrow.Author.Needs.{needs}
