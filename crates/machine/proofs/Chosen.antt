@@ -11,11 +11,11 @@ use lib.Dec.{ltb}
 use Rattle.numbers.specs.Choice.{pick}
 use Rattle.numbers.specs.Bits.{bit, withBit, chosen, OnesBelow}
 use Rattle.numbers.specs.Rising.{rising, ofOnes}
-use Rattle.numbers.proofs.BitLaws.{bit-kept}
-use Rattle.numbers.proofs.Sets.{bit-and}
+use Rattle.numbers.proofs.BitLaws.{bit-kept, bit-replaced, decEq}
+use Rattle.numbers.proofs.Sets.{bit-and, bit-none}
 use Rattle.numbers.proofs.Rising.{settles}
 use Rattle.numbers.proofs.SetBits.{starts-walk, ends-walk, single, has-one}
-use Rattle.numbers.proofs.Tests.{and-left, and-right, pick-true, pick-false}
+use Rattle.numbers.proofs.Tests.{true-not-false, and-left, and-right, pick-true, pick-false}
 use Rattle.state.specs.declared.Control.{Control}
 use Rattle.state.specs.State.{placeOf}
 use Rattle.state.specs.Elements.{matches}
@@ -154,6 +154,18 @@ module _ (ins : Instruction) (scalar all : ℕ) (r : Run) (short : r .progress .
           past : (j : ℕ) → vlr ≤ j → bit all j ≡ false
           past j h = set .ones j ∙ ap (λ (t : Bool). t && chosen (ins .moe && not merge) (ins .mtf) (r .progress .control .vmr) j) (le-ltb j vlr h)
 
+    -- the step of one element: its work, or nothing
+    module _ (i : ℕ) (no-iota : isIota (kindOf (ins .work)) ≡ false) where
+      its-step : (t : Bool) → bit all i ≡ t → pick t (worked ins scalar i r) r ≡ stepOf ins scalar i r
+      unfolding elementStep
+      its-step t e = sym (of-element no-iota i r ∙ ap (λ (u : Bool). pick u (worked ins scalar i r) r) (is-operated i (r .progress .control) refl refl ∙ e))
+
+      pub taken : bit all i ≡ true → worked ins scalar i r ≡ stepOf ins scalar i r
+      taken e = its-step true e
+
+      pub kept : bit all i ≡ false → r ≡ stepOf ins scalar i r
+      kept e = its-step false e
+
     -- all of them are the whole instruction
     pub whole : doneFor all ins scalar r ≡ wholeOf ins scalar r
     unfolding doneFor
@@ -178,6 +190,22 @@ module _ (ins : Instruction) (scalar all : ℕ) (r : Run) (short : r .progress .
             its-step : stepOf ins scalar 0 r ≡ iotaStep ins scalar r
             its-step = pick-true (isIota (kindOf (ins .work))) (iotaStep ins scalar r) (elementStep ins scalar 0 r) k
         at false k = sym (same-steps k (bit part) which (λ i. ap (λ (x : ℕ). bit x i) e ∙ bit-and part all i) 64)
+
+-- the work of one element
+pub one-done : (ins : Instruction) (scalar i : ℕ) (r : Run) → i < 64 → isIota (kindOf (ins .work)) ≡ false → doneFor (withBit 0 i 1) ins scalar r ≡ worked ins scalar i r
+unfolding doneFor
+one-done ins scalar i r h no-iota =
+    pick-false (isIota (kindOf (ins .work))) (iotaStep ins scalar r) _ no-iota
+    ∙ single (worked ins scalar) r i (withBit 0 i 1) h (bit-replaced 0 i 1 (omega arith)) (λ j _ e. only j e (decEq j i))
+  where
+    only : (j : ℕ) → bit (withBit 0 i 1) j ≡ true → Dec (j ≡ i) → j ≡ i
+    only j e (yes q) = q
+    only j e (no q) = absurd (true-not-false (sym (bit-none j) ∙ sym (bit-kept 0 i 1 (omega arith) j q) ∙ e))
+
+-- IOTA's one step
+pub iota-done : (ins : Instruction) (scalar i which : ℕ) (r : Run) → isIota (kindOf (ins .work)) ≡ true → doneFor which ins scalar r ≡ stepOf ins scalar i r
+unfolding doneFor stepOf
+iota-done ins scalar i which r e = pick-true (isIota (kindOf (ins .work))) _ _ e ∙ sym (pick-true (isIota (kindOf (ins .work))) _ _ e)
 
 -- of no element nothing is done
 pub none : (ins : Instruction) (scalar part : ℕ) (r : Run) → part ≡ 0 → r ≡ stepsIn part ins scalar r

@@ -6,9 +6,9 @@ use mathlib.Core.List.{List}
 use Prim.Native.Nat.{ℕ, zero, suc, _+_, _-_, _*_, _/_, _%_, _^_, _≤_, _<_}
 use native.Mathlib.Nat.{pow-suc, mod-lt, zero-add}
 use native.Mathlib.Omega.{arith}
-use borrow.Author.Tests.{lt-ltb, le-ltb, eq-eqb, ne-eqb}
+use borrow.Author.Tests.{lt-ltb, le-ltb, eqb-true, eq-eqb, ne-eqb}
 use lib.Dec.{eqb, ltb}
-use lib.Bits.{bitOr, bitAnd}
+use lib.Bits.{bitOr, bitAnd, or-zero-l, or-zero-r}
 use lib.Pow.{pow-mono}
 use Rattle.numbers.specs.Choice.{pick}
 use Rattle.numbers.specs.Bits.{bit, withBit}
@@ -150,6 +150,23 @@ module _ (ins : Instruction) (x which : ℕ) (l : List ℕ) (p : Progress) (comp
         ∙ ap (λ (t : Bool). recorded (notes (registerBit t (ins .vc .0)) (out i .types)) (written ins i (out i .value) (joined m))) compare
         ∙ ap (recorded (notes 0 (out i .types))) (writes (out i .value))
         ∙ ap (run l) (gathered-twice (m .types) (notes 0 (out i .types)) (progress (withVmr (p .control) (withBit (m .vmr) i (out i .value % 2))) (p .recorded))))
+
+  -- of one element
+  plain : (t : ℕ) → bitOr 0 (notes 0 t) ≡ t
+  unfolding notes
+  plain t = or-zero-l (pick (eqb t 0) 0 (bitOr t 0)) ∙ at (eqb t 0) refl
+    where
+      at : (b : Bool) → eqb t 0 ≡ b → pick b 0 (bitOr t 0) ≡ t
+      at true e = sym (eqb-true t 0 e)
+      at false e = or-zero-r t
+
+  pub compared-one : (e : Effect) (i : ℕ) → e .vmr ≡ withBit (p .control .vmr) i (out i .value % 2) → e .vcr ≡ p .control .vcr → e .notes ≡ out i .types
+      → run l (effected e p) ≡ worked ins x i (run l p)
+  compared-one e i v c n =
+      ap₂ (λ (a b : ℕ). run l (gathered b (progress (withVcr (withVmr (p .control) a) (e .vcr)) (p .recorded)))) v (n ∙ sym (plain (out i .types)))
+      ∙ ap (λ (a : ℕ). run l (gathered (bitOr 0 (notes 0 (out i .types))) (progress (withVcr (withVmr (p .control) (withBit (p .control .vmr) i (out i .value % 2))) a) (p .recorded)))) c
+      ∙ one i (marks (p .control .vmr) 0)
+      ∙ ap (λ (q : Progress). worked ins x i (run l q)) (gathered-none p)
 
   abbrev after : ℕ → Marks
   after n = rising (ofOnes mark which) n (marks (p .control .vmr) 0)

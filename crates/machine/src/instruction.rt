@@ -1,4 +1,4 @@
-// A whole register instruction, and some of its steps.
+// A whole register instruction, one step of it, and some of its steps together.
 use crate::Effect;
 use crate::Progress;
 use crate::iota;
@@ -7,14 +7,15 @@ use crate::mask;
 use crate::run;
 use numbers::bits;
 use opcodes::Instruction;
+use state::Element;
 ghost use mathlib.Core.Path.{_≡_};
 ghost use mathlib.Core.Bool.{true, false, not, _&&_};
 ghost use Prim.Native.Nat.{ℕ, _<_, _≤_};
 ghost use Rattle.numbers.specs.Bits.{bit, chosen, OnesBelow};
 ghost use Rattle.machine.specs.Run.{run as runOf};
 ghost use Rattle.machine.specs.Kind.{kindOf, isMerge, isIota};
-ghost use Rattle.machine.specs.Step.{registerBit, notes};
-ghost use Rattle.machine.specs.Instruction.{wholeOf, stepsIn};
+ghost use Rattle.machine.specs.Step.{registerBit, notes, worked};
+ghost use Rattle.machine.specs.Instruction.{stepOf, stepsIn, wholeOf};
 ghost use Rattle.machine.specs.Loops.{matched as matchedOf, effected as effectedOf, doneFor};
 
 // The bit of a register in VAER.
@@ -93,6 +94,32 @@ fn effect(
     noted(instruction, vmr, vcr, types)
 }
 
+// The work of one element, which is operated on.
+fn one(
+    elements: &mut [u64; 1024],
+    instruction: Instruction,
+    scalar: u64,
+    i: usize,
+    vmr: u64,
+    vcr: u64,
+) -> Effect
+    requires { ⌜ (instruction .va .0 < 16) × (instruction .vb .0 < 16) × (instruction .vc .0 < 16) × (i < 64) × (isIota (kindOf (instruction .work)) ≡ false) ⌝ }
+    ensures { λ r. ⌜ ((p : Progress) → p .control .vmr ≡ vmr → p .control .vcr ≡ vcr → runOf (now (elements .exit)) (effectedOf r p) ≡ worked instruction scalar i (runOf (now (elements .entry)) p)) ⌝ }
+{
+    let work = instruction.work;
+    if crate::is_compare(work) {
+        return mask::at(&*elements, instruction, scalar, i, vmr, vcr);
+    }
+    let types = lanes::some(
+        elements,
+        instruction,
+        scalar,
+        matched(vmr, instruction.mtf),
+        bits::with_bit(0, i, 1),
+    );
+    noted(instruction, vmr, vcr, types)
+}
+
 // The control record after what was done.
 fn effected(progress: Progress, effect: Effect) -> Progress
     ensures { λ r. ⌜ r ≡ effectedOf effect progress ⌝ }
@@ -124,6 +151,33 @@ pub fn whole(
     let vcr = progress.control.vcr;
     let which = operated(instruction, vlr, vmr);
     let done = effect(elements, instruction, scalar, which, vlr, vmr, vcr);
+    effected(progress, done)
+}
+
+// One step: the work of its element alone, or IOTA's whole.
+pub fn step(
+    elements: &mut [u64; 1024],
+    progress: Progress,
+    instruction: Instruction,
+    scalar: u64,
+    element: Element,
+) -> Progress
+    requires { ⌜ (instruction .va .0 < 16) × (instruction .vb .0 < 16) × (instruction .vc .0 < 16) × (progress .control .vlr ≤ 64) × (element .0 < 64) ⌝ }
+    ensures { λ r. ⌜ runOf (now (elements .exit)) r ≡ stepOf instruction scalar (element .0) (runOf (now (elements .entry)) progress) ⌝ }
+{
+    let vlr = progress.control.vlr;
+    let vmr = progress.control.vmr;
+    let vcr = progress.control.vcr;
+    let i = element.0 as usize;
+    let work = instruction.work;
+    if crate::is_iota(work) {
+        let done = effect(elements, instruction, scalar, 0, vlr, vmr, vcr);
+        return effected(progress, done);
+    }
+    if !bits::bit(operated(instruction, vlr, vmr), i) {
+        return progress;
+    }
+    let done = one(elements, instruction, scalar, i, vmr, vcr);
     effected(progress, done)
 }
 

@@ -281,7 +281,13 @@ fn conversions(
 }
 
 // The work of the elements of a set.
-fn some(elements: &mut [u64; 1024], instruction: Instruction, x: u64, mask: u64, which: u64) -> u64
+pub fn some(
+    elements: &mut [u64; 1024],
+    instruction: Instruction,
+    x: u64,
+    mask: u64,
+    which: u64,
+) -> u64
     requires { ⌜ (instruction .va .0 < 16) × (instruction .vb .0 < 16) × (instruction .vc .0 < 16) × (isCompare (kindOf (instruction .work)) ≡ false) ⌝ }
     ensures { λ r. ⌜ lanes (now (elements .exit)) r ≡ rising (ofOnes (laneStep (workAt (workNumber (instruction .work)) (instruction .exc) (instruction .va .0) mask) (instruction .scalar) x (instruction .va .0) (instruction .vb .0) (instruction .vc .0)) which) 64 (lanes (now (elements .entry)) 0) ⌝ }
 {

@@ -14,6 +14,7 @@ ghost use Rattle.numbers.specs.Bits.{bit};
 ghost use Rattle.machine.specs.declared.Progress.{Progress};
 ghost use Rattle.machine.specs.Kind.{kindOf, isCompare};
 ghost use Rattle.machine.specs.Run.{run as runOf};
+ghost use Rattle.machine.specs.Step.{worked};
 ghost use Rattle.machine.specs.Loops.{comparedAt, oddFrom, effected, doneFor};
 
 // The compare of one element.
@@ -141,5 +142,35 @@ pub fn over(
         vmr: bits::replaced(vmr, m.found, which),
         vcr,
         notes: if refused == 0 { 0 } else { 4 },
+    }
+}
+
+// The compare of one element, which is operated on.
+pub fn at(
+    elements: &[u64; 1024],
+    instruction: Instruction,
+    x: u64,
+    i: usize,
+    vmr: u64,
+    vcr: u64,
+) -> Effect
+    requires { ⌜ (instruction .va .0 < 16) × (instruction .vb .0 < 16) × (i < 64) × (isCompare (kindOf (instruction .work)) ≡ true) ⌝ }
+    ensures { λ r. ⌜ ((p : Progress) → p .control .vmr ≡ vmr → p .control .vcr ≡ vcr → runOf (now (elements .entry)) (effected r p) ≡ worked instruction x i (runOf (now (elements .entry)) p)) ⌝ }
+{
+    let work = instruction.work;
+    let o = one(
+        elements,
+        element::code(work),
+        instruction.vc.0 as u64 % 8,
+        instruction.scalar,
+        x,
+        instruction.va.0 as usize,
+        instruction.vb.0 as usize,
+        i,
+    );
+    Effect {
+        vmr: bits::with_bit(vmr, i, o.value % 2),
+        vcr,
+        notes: o.types,
     }
 }

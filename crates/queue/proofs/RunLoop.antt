@@ -1,11 +1,12 @@
 -- A loop that runs a list of steps, some entries at a time: what is left of the list, run from here, gives what the whole list gives.
 -- Assumes nothing.
-use mathlib.Core.Path.{_≡_, refl, sym, ap, _∙_}
+use mathlib.Core.Path.{_≡_, refl, sym, ap, _∙_, subst}
 use mathlib.Core.Logic.{inl, inr}
 use mathlib.Core.List.{List, [], _∷_, _++_}
-use Prim.Native.Nat.{ℕ, _+_, _<_, _≤_, zero-le}
+use Prim.Native.Nat.{ℕ, suc, _+_, _<_, _≤_, zero-le}
+use native.Mathlib.Numerals.{add-one}
 use lib.ListN.{length, getD, take, drop, take-append-drop, drop-of-length-le}
-use lib.Seq.{drop-drop}
+use lib.Seq.{drop-cons, drop-drop}
 use Rattle.opcodes.specs.declared.Instruction.{Instruction}
 use Rattle.machine.specs.Run.{Run}
 use Rattle.machine.specs.Instruction.{stepOf}
@@ -28,6 +29,14 @@ module _ {S : Type 0} (does : ℕ → S → S) (list : List ℕ) (s₀ : S) wher
   pub run-start : RunInv s₀ 0
   run-start = record { inside = zero-le; same = refl }
 
+  -- one entry more
+  pub run-one : (s : S) (i : ℕ) → RunInv s i → i < length list → (s′ : S) → s′ ≡ does (getD list i 0) s → RunInv s′ (i + 1)
+  unfolding run
+  run-one s i inv h s′ e = subst (RunInv s′) (sym (add-one i)) (record {
+    inside = h;
+    same = inv .same ∙ ap (λ (l : List ℕ). run does l s) (drop-cons list i 0 h) ∙ ap (run does (drop (suc i) list)) (sym e);
+  })
+
   -- n entries more
   pub run-on : (s : S) (i n : ℕ) → RunInv s i → i + n ≤ length list → (s′ : S) → s′ ≡ run does (take n (drop i list)) s → RunInv s′ (i + n)
   run-on s i n inv h s′ e = record {
@@ -49,12 +58,20 @@ unfolding run
 run-same f g [] e s = refl
 run-same f g (x ∷ l) e s = ap (run f l) (e x (inl refl) s) ∙ run-same f g l (λ y m. e y (inr m)) (g x s)
 
+-- the step of an entry of a decoded queue
+pub acts : (program : List Instruction) (scalars : List ℕ) (x : ℕ) (r r′ : Run) → r′ ≡ stepOf (decodedAt program (position x)) (getD scalars (position x) 0) (element x) r → r′ ≡ actBy program scalars x r
+unfolding actBy
+acts program scalars x r r′ e = e
+
+pub act-vlr : (program : List Instruction) (scalars : List ℕ) (x : ℕ) (r : Run) → vlrOf (actBy program scalars x r) ≡ vlrOf r
+unfolding actBy
+act-vlr program scalars x r = step-vlr (decodedAt program (position x)) (getD scalars (position x) 0) (element x) r
+
 -- the steps of a decoded queue leave VLR as it was
 pub run-vlr : (program : List Instruction) (scalars l : List ℕ) (r : Run) → vlrOf (run (actBy program scalars) l r) ≡ vlrOf r
-unfolding run actBy
+unfolding run
 run-vlr program scalars [] r = refl
-run-vlr program scalars (x ∷ l) r =
-    run-vlr program scalars l (actBy program scalars x r) ∙ step-vlr (decodedAt program (position x)) (getD scalars (position x) 0) (element x) r
+run-vlr program scalars (x ∷ l) r = run-vlr program scalars l (actBy program scalars x r) ∙ act-vlr program scalars x r
 
 -- a decoded queue's steps are the queue's
 pub same-acts : (q : Queue) (program : List Instruction) → ((k : ℕ) → k < size q → decodedAt program k ≡ instructionAt q k)

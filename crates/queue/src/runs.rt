@@ -2,6 +2,7 @@
 use machine::Progress;
 use machine::instruction;
 use opcodes::Instruction;
+use state::Element;
 ghost use mathlib.Core.Path.{_≡_};
 ghost use mathlib.Core.Bool.{true};
 ghost use Prim.Native.Nat.{ℕ, _+_, _≤_, _<_};
@@ -34,12 +35,27 @@ pub fn straight(
     progress
 }
 
-// How many of the entries left are taken together: at most 256.
-fn stretch(left: usize) -> usize
-    requires { ⌜ 0 < left ⌝ }
-    ensures { λ r. ⌜ (0 < r) × (r ≤ left) × (r ≤ 256) ⌝ }
+// One entry of a list: its step.
+fn enter(
+    elements: &mut [u64; 1024],
+    begun: Progress,
+    program: [Instruction; 16],
+    scalars: &[u64],
+    x: u64,
+) -> Progress
+    requires { ⌜ (begun .control .vlr ≤ 64) × (length (now scalars) ≤ 16) × (position x < length (now scalars)) ⌝ }
+    requires { ⌜ ((k : ℕ) → k < length (now scalars) → Below (decodedAt program k)) ⌝ }
+    ensures { λ r. ⌜ runOf (now (elements .exit)) r ≡ actBy program (now (scalars .entry)) x (runOf (now (elements .entry)) begun) ⌝ }
 {
-    if left < 256 { left } else { 256 }
+    let p = (x / 64) as usize;
+    let instruction = program[p];
+    instruction::step(
+        elements,
+        begun,
+        instruction,
+        scalars[p],
+        Element((x % 64) as u8),
+    )
 }
 
 // For each position the set of the elements that its entries have, among the n entries of a list from i on.
@@ -80,8 +96,8 @@ fn together(
     progress
 }
 
-// The n entries of a list from i on. The steps of one instruction are done together, position after position; it ends where the steps of the
-// entries, each on what the last one left, end.
+// A stretch: the n entries of a list from i on. The steps of one instruction are done together, position after position; it ends where the steps
+// of the entries, each on what the last one left, end.
 fn advance(
     elements: &mut [u64; 1024],
     begun: Progress,
@@ -102,7 +118,7 @@ fn advance(
     together(elements, begun, program, scalars, &sets)
 }
 
-// A permitted list, a stretch at a time, each on what the last one left; it ends where its steps, each on what the last one left, end.
+// The steps of a permitted list, each on what the last one left: one entry at a time, or a stretch of 256 where there are as many.
 pub fn walk(
     elements: &mut [u64; 1024],
     begun: Progress,
@@ -119,9 +135,13 @@ pub fn walk(
     let mut progress = begun;
     let mut i: usize = 0;
     while i < list.len() {
-        let n = stretch(list.len() - i);
-        progress = advance(&mut *elements, progress, program, scalars, list, i, n);
-        i += n;
+        if list.len() - i < 256 {
+            progress = enter(&mut *elements, progress, program, scalars, list[i]);
+            i += 1;
+        } else {
+            progress = advance(&mut *elements, progress, program, scalars, list, i, 256);
+            i += 256;
+        }
     }
     progress
 }
