@@ -118,7 +118,7 @@ fn advance(
     together(elements, begun, program, scalars, &sets)
 }
 
-// The steps of a permitted list, each on what the last one left: one entry at a time, or a stretch of 256 where there are as many.
+// The steps of a permitted list, each on what the last one left: one entry at a time, or a stretch of 128 where there are as many.
 pub fn walk(
     elements: &mut [u64; 1024],
     begun: Progress,
@@ -135,12 +135,12 @@ pub fn walk(
     let mut progress = begun;
     let mut i: usize = 0;
     while i < list.len() {
-        if list.len() - i < 256 {
+        if list.len() - i < 128 {
             progress = enter(&mut *elements, progress, program, scalars, list[i]);
             i += 1;
         } else {
-            progress = advance(&mut *elements, progress, program, scalars, list, i, 256);
-            i += 256;
+            progress = advance(&mut *elements, progress, program, scalars, list, i, 128);
+            i += 128;
         }
     }
     progress
