@@ -19,7 +19,7 @@ use Rattle.queue.specs.Reply.{replyAnswer}
 use Rattle.queue.specs.Run.{outcome, orderRefused, ranThrough, queueRun, verdictOf, byVerdict, orderedRun}
 use Rattle.queue.specs.Order.{Mem, Proper, run as walkOf}
 use Rattle.queue.specs.Touch.{position, stepsOf, mustFollow, act}
-use Rattle.queue.specs.Tables.{Below, decodedAt, actBy, throughBy, standing}
+use Rattle.queue.specs.Tables.{Below, decodedAt, actBy, throughBy, EndsAlike, standing}
 use Rattle.queue.specs.declared.Verdict.{Verdict}
 use Rattle.queue.specs.declared.Verdict.the-variants as verdict
 use Rattle.opcodes.specs.declared.Instruction.{Instruction}
@@ -122,6 +122,13 @@ module _ (q : Queue) (l : List ℕ) (c : Control) (r : Reply) (asked : replyAnsw
 
       entry-of : (x : ℕ) → Mem x list → position x < size q
       entry-of x m = let w = place x list (length list) (rw take-length m) in subst (λ (y : ℕ). position y < size q) (w .3) (entry-position (w .0) (w .1))
+
+      pub ends-alike : Ignores → EndsAlike program (q .scalars) list (c .vlr)
+      ends-alike ig = record { same = λ s v.
+          ap (λ (n : ℕ). throughBy program (q .scalars) n s) (reply-accepted f .lengths .scalars)
+          ∙ same-through q program same (size q) (omega arith) s
+          ∙ sym (permitted-straight ig q s (rw v (reply-accepted f .short)) list (rw v allowed))
+          ∙ sym (run-same (actBy program (q .scalars)) (act q) list (λ x m z. same-acts q program same x (entry-of x m) z) s) }
 
       pub order-done : Ignores → (l′ : List ℕ) (p p′ : Progress) (c′ : Control) → p ≡ progress c false → c′ ≡ ended p′
           → run l′ p′ ≡ walkOf (actBy program (q .scalars)) list (run l p)

@@ -25,8 +25,6 @@ pub mod Coming
 pub mod CheckLoop
 pub mod Marking
 pub mod RunLoop
-pub mod Gathering
-pub mod Stretches
 pub mod Noting
 pub mod Verdicts
 pub mod Preparing

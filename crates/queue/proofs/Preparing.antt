@@ -24,16 +24,15 @@ use Rattle.queue.specs.Order.{run as walkOf}
 use Rattle.queue.specs.Touch.{position}
 use Rattle.queue.specs.Reply.{replyAnswer}
 use Rattle.queue.specs.Binds.{binds}
-use Rattle.queue.specs.Tables.{Joins, Below, decodedAt, readersWith, writersWith, boundTo, verdictBy, actBy, standing, Accepts}
+use Rattle.queue.specs.Tables.{EndsAlike, Below, decodedAt, readersWith, writersWith, boundTo, verdictBy, actBy, standing, Accepts}
 use Rattle.queue.proofs.Accepting.{Lengths, position-passes, position-stops, position-last, by-standing, by-position}
 use Rattle.queue.proofs.Filling.{Filled, fill-none, fill-more}
 use Rattle.queue.proofs.Through.{at-below}
-use Rattle.queue.proofs.Stretches.{joins}
 use Rattle.queue.proofs.Sets.{built-at}
 use Rattle.queue.proofs.Noting.{Noted, noted-none, noted-more, bound-is}
 use Rattle.queue.proofs.Verdicts.{Tables, bound-earlier, tables-verdict}
 use Rattle.queue.proofs.Ignoring.{ignores}
-use Rattle.queue.proofs.Calls.{Accepted, reply-accepted, through-meets, order-refused, order-stopped, entry-position, order-done}
+use Rattle.queue.proofs.Calls.{Accepted, reply-accepted, through-meets, order-refused, order-stopped, entry-position, ends-alike, order-done}
 
 -- ---- the positions are tested and decoded
 module _ (q : Queue) where
@@ -161,18 +160,18 @@ module _ (q : Queue) (l : List ℕ) (c : Control) (r : Reply) (program : List In
         listed-stopped place e = order-stopped q l c r (accepts .answered) passes list v place right e
 
         module _ (permitted : v ≡ verdict.Permitted) (p : Progress) (begun : p ≡ progress c false) where
-          pub walk-meets : ((p .control .vlr ≤ 64) × (length (q .scalars) ≤ 16))
+          pub list-meets : ((p .control .vlr ≤ 64) × (length (q .scalars) ≤ 16))
               × (((j : ℕ) → j < length (q .scalars) → Below (decodedAt program j))
               × (((i : ℕ) → i < length list → position (getD list i 0) < length (q .scalars))
-              × Joins program (q .scalars) list (p .control .vlr)))
-          walk-meets =
+              × EndsAlike program (q .scalars) list (p .control .vlr)))
+          list-meets =
               let t = through-meets q l c r (accepts .answered) passes program decoding p begun in (
                 t .0,
                 (
                   t .1,
                   (
                     λ i h. rw (ok .lengths .scalars) (entry-position q l c r (accepts .answered) passes list program decoding v right permitted i h),
-                    rw begun (joins ignores q (c .vlr) (ok .short) (ok .lengths .few) (ok .lengths .scalars) program decoding list (sym right ∙ permitted)),
+                    rw begun (ends-alike q l c r (accepts .answered) passes list program decoding v right permitted ignores),
                   ),
                 ),
               )

@@ -1,12 +1,12 @@
--- A loop that runs a list of steps, some entries at a time: what is left of the list, run from here, gives what the whole list gives.
+-- A loop that runs a list of steps, one entry at a time: what is left of the list, run from here, gives what the whole list gives.
 -- Assumes nothing.
 use mathlib.Core.Path.{_≡_, refl, sym, ap, _∙_, subst}
 use mathlib.Core.Logic.{inl, inr}
 use mathlib.Core.List.{List, [], _∷_, _++_}
 use Prim.Native.Nat.{ℕ, suc, _+_, _<_, _≤_, zero-le}
 use native.Mathlib.Numerals.{add-one}
-use lib.ListN.{length, getD, take, drop, take-append-drop, drop-of-length-le}
-use lib.Seq.{drop-cons, drop-drop}
+use lib.ListN.{length, getD, drop, drop-of-length-le}
+use lib.Seq.{drop-cons}
 use Rattle.opcodes.specs.declared.Instruction.{Instruction}
 use Rattle.machine.specs.Run.{Run}
 use Rattle.machine.specs.Instruction.{stepOf}
@@ -37,17 +37,6 @@ module _ {S : Type 0} (does : ℕ → S → S) (list : List ℕ) (s₀ : S) wher
     same = inv .same ∙ ap (λ (l : List ℕ). run does l s) (drop-cons list i 0 h) ∙ ap (run does (drop (suc i) list)) (sym e);
   })
 
-  -- n entries more
-  pub run-on : (s : S) (i n : ℕ) → RunInv s i → i + n ≤ length list → (s′ : S) → s′ ≡ run does (take n (drop i list)) s → RunInv s′ (i + n)
-  run-on s i n inv h s′ e = record {
-    inside = h;
-    same = inv .same
-        ∙ ap (λ (l : List ℕ). run does l s) (sym (take-append-drop n (drop i list)))
-        ∙ run-append does (take n (drop i list)) (drop n (drop i list)) s
-        ∙ ap (λ (l : List ℕ). run does l (run does (take n (drop i list)) s)) (drop-drop n i list)
-        ∙ ap (run does (drop (i + n) list)) (sym e);
-  }
-
   pub run-end : (s : S) (i : ℕ) → RunInv s i → length list ≤ i → s ≡ run does list s₀
   unfolding run
   run-end s i inv h = sym (inv .same ∙ ap (λ (l : List ℕ). run does l s) (drop-of-length-le list h))
@@ -66,12 +55,6 @@ acts program scalars x r r′ e = e
 pub act-vlr : (program : List Instruction) (scalars : List ℕ) (x : ℕ) (r : Run) → vlrOf (actBy program scalars x r) ≡ vlrOf r
 unfolding actBy
 act-vlr program scalars x r = step-vlr (decodedAt program (position x)) (getD scalars (position x) 0) (element x) r
-
--- the steps of a decoded queue leave VLR as it was
-pub run-vlr : (program : List Instruction) (scalars l : List ℕ) (r : Run) → vlrOf (run (actBy program scalars) l r) ≡ vlrOf r
-unfolding run
-run-vlr program scalars [] r = refl
-run-vlr program scalars (x ∷ l) r = run-vlr program scalars l (actBy program scalars x r) ∙ act-vlr program scalars x r
 
 -- a decoded queue's steps are the queue's
 pub same-acts : (q : Queue) (program : List Instruction) → ((k : ℕ) → k < size q → decodedAt program k ≡ instructionAt q k)

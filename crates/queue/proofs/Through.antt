@@ -7,9 +7,7 @@ use native.Mathlib.Omega.{arith}
 use lib.Dec.{lit<}
 use lib.ListN.{getD}
 use Rattle.numbers.specs.Choice.{pick}
-use Rattle.numbers.specs.Bits.{bit}
-use Rattle.numbers.specs.Rising.{rising, ofOnes}
-use Rattle.numbers.proofs.Rising.{starts, settles, carries}
+use Rattle.numbers.specs.Rising.{rising}
 use Rattle.opcodes.specs.declared.Instruction.{Instruction}
 use Rattle.opcodes.specs.declared.Decoded.{Decoded}
 use Rattle.opcodes.specs.declared.Decoded.the-variants as decoded
@@ -19,7 +17,7 @@ use Rattle.machine.specs.Kind.{kindOf, isCompare, isIota}
 use Rattle.machine.specs.Run.{Run, gathered}
 use Rattle.machine.specs.Step.{operated, received, written, worked, elementStep}
 use Rattle.machine.specs.Iota.{iotaStep}
-use Rattle.machine.specs.Instruction.{stepOf, stepsBelow, stepsIn, stepCount, wholeOf}
+use Rattle.machine.specs.Instruction.{stepOf, stepsBelow, stepCount, wholeOf}
 use Rattle.queue.specs.Queue.{standIn, instructionFrom, Queue, size, instructionOr, instructionAt, scalarAt, straight}
 use Rattle.queue.specs.Tables.{Below, decodedAt, throughBy}
 
@@ -68,17 +66,7 @@ pub whole-vlr : (ins : Instruction) (scalar : ℕ) (r : Run) → vlrOf (wholeOf 
 unfolding wholeOf
 whole-vlr ins scalar r = steps-vlr (stepCount ins (vlrOf r)) ins scalar r
 
-pub stepsIn-vlr : (part : ℕ) (ins : Instruction) (scalar : ℕ) (r : Run) → vlrOf (stepsIn part ins scalar r) ≡ vlrOf r
-unfolding stepsIn ofOnes
-stepsIn-vlr part ins scalar r = carries vlrOf (ofOnes (stepOf ins scalar) part) (λ _ v. v) 64 r (λ i x _. pick-vlr (bit part i) (stepOf ins scalar i x) x x (step-vlr ins scalar i x) refl) ∙ still 64
-  where
-    still : (n : ℕ) → rising (λ _ v. v) n (vlrOf r) ≡ vlrOf r
-    still n = sym (settles (λ _ v. v) (vlrOf r) (vlrOf r) 0 n (omega arith) (λ j _ _. refl) (starts (λ _ v. v) (vlrOf r)))
-
--- ---- the loops
-pub steps-short : (part : ℕ) (i : Instruction) (scalar : ℕ) (r r′ : Run) → vlrOf r ≤ 64 → r′ ≡ stepsIn part i scalar r → vlrOf r′ ≤ 64
-steps-short part i scalar r r′ h e = rw (ap vlrOf e ∙ stepsIn-vlr part i scalar r) h
-
+-- ---- the loop
 pub whole-short : (i : Instruction) (scalar : ℕ) (r r′ : Run) → vlrOf r ≤ 64 → r′ ≡ wholeOf i scalar r → vlrOf r′ ≤ 64
 whole-short i scalar r r′ h e = rw (ap vlrOf e ∙ whole-vlr i scalar r) h
 

@@ -1,12 +1,12 @@
--- What the code of a queue computes with: the check's tables (proofs/Verdicts.antt proves that they give the check of specs/Order.antt), the stretches of a list's run
--- (proofs/Stretches.antt) and acceptance (proofs/Accepting.antt). A set of positions is a number whose bit k says that position k is in it. No public promise cites this.
+-- What the code of a queue computes with: the check's tables (proofs/Verdicts.antt proves that they give the check of specs/Order.antt), the runs (proofs/Calls.antt)
+-- and acceptance (proofs/Accepting.antt). A set of positions is a number whose bit k says that position k is in it. No public promise cites this.
 use mathlib.Core.Path.{_≡_}
 use mathlib.Core.Bool.{Bool, true, false, not, _&&_, _||_}
 use mathlib.Core.List.{List}
 use Prim.Native.Nat.{ℕ, zero, suc, _+_, _-_, _*_, _^_, _<_, _≤_}
 use lib.Dec.{ltb, eqb}
 use lib.Bits.{bitAnd, bitOr}
-use lib.ListN.{length, getD, set, take, drop}
+use lib.ListN.{length, getD, set}
 use Rattle.numbers.specs.Choice.{pick}
 use Rattle.numbers.specs.Bits.{bit, complement}
 use Rattle.numbers.specs.Rising.{rising}
@@ -15,7 +15,7 @@ use Rattle.state.specs.Answer.{Answer, done}
 use Rattle.opcodes.specs.declared.Instruction.{Instruction}
 use Rattle.machine.specs.Kind.{kindOf, isCompare, isMerge, isIota}
 use Rattle.machine.specs.Run.{Run}
-use Rattle.machine.specs.Instruction.{stepOf, stepsIn, wholeOf}
+use Rattle.machine.specs.Instruction.{stepOf, wholeOf}
 use Rattle.queue.specs.Queue.{standIn, Queue, size, fine, afterTests, acceptance, instructionAt}
 use Rattle.queue.specs.Order.{check, run}
 use Rattle.queue.specs.Touch.{position, element, passing, isConvert}
@@ -151,27 +151,9 @@ actBy program scalars x r = stepOf (decodedAt program (position x)) (getD scalar
 abbrev pub throughBy : List Instruction → List ℕ → ℕ → Run → Run
 throughBy program scalars n r = rising (λ (k : ℕ) (x : Run). wholeOf (decodedAt program k) (getD scalars k 0) x) n r
 
--- ---- a stretch of a list: entries in a row, of which those of one position are done together
--- x is one of the n entries from i on, which are entries of the list
-unfoldable pub among : List ℕ → ℕ → ℕ → ℕ → Bool
-among list i zero x = false
-among list i (suc n) x = among list i n x || eqb x (getD list (i + n) 0)
-
--- for each position the set of the elements that its entries among them have
-pub record Gathered (list : List ℕ) (i n : ℕ) (sets : List ℕ) : Type 0 where
-  pub long : length sets ≡ 16
-  pub elements : (p e : ℕ) → p < 16 → e < 64 → bit (getD sets p 0) e ≡ among list i n (p * 64 + e)
-
--- the steps of the sets, position after position
-abbrev pub togetherBy : List Instruction → List ℕ → List ℕ → ℕ → Run → Run
-togetherBy program scalars sets n r = rising (λ (k : ℕ) (x : Run). stepsIn (getD sets k 0) (decodedAt program k) (getD scalars k 0) x) n r
-
--- of every stretch of the list: an IOTA has no element but 0; and doing the sets position after position leaves what doing the entries one after the other leaves
-pub record Joins (program : List Instruction) (scalars list : List ℕ) (vlr : ℕ) : Type 0 where
-  pub iotas : (i n : ℕ) (sets : List ℕ) → i + n ≤ length list → Gathered list i n sets → (p e : ℕ) → p < length scalars → e < 64
-      → isIota (kindOf (decodedAt program p .work)) ≡ true → bit (getD sets p 0) e ≡ true → e ≡ 0
-  pub same : (i n : ℕ) (sets : List ℕ) → i + n ≤ length list → Gathered list i n sets → (r : Run) → r .progress .control .vlr ≡ vlr
-      → togetherBy program scalars sets (length scalars) r ≡ run (actBy program scalars) (take n (drop i list)) r
+-- a list ends where the queue ends straight through, whatever the run begins with
+pub record EndsAlike (program : List Instruction) (scalars list : List ℕ) (vlr : ℕ) : Type 0 where
+  pub same : (r : Run) → r .progress .control .vlr ≡ vlr → throughBy program scalars (length scalars) r ≡ run (actBy program scalars) list r
 
 -- ---- the tests before the positions of a queue: 12, 8, then 3
 unfoldable pub standing : Control → Queue → Answer

@@ -106,7 +106,7 @@ pub fn run_order(
     match order::check(opcodes.len(), control.vlr, writers[17], &bound, list) {
         Verdict::Permitted => {
             let program = accepted.program;
-            let progress = runs::walk(elements, run::begin(control), program, scalars, list);
+            let progress = runs::by_list(elements, run::begin(control), program, scalars, list);
             Ran {
                 reply: Reply::Done,
                 control: run::end(progress),

@@ -1,5 +1,5 @@
 -- `run_order` meets its contract: the loop binds each position of an accepted queue; a list that is not permitted is refused and nothing has changed; a
--- permitted one is walked, and demand 3 says that this is the straight run. Assumes nothing.
+-- permitted one is run, and demand 3 says that its entries end where the straight run ends. Assumes nothing.
 use mathlib.Core.Path.{sym, _∙_}
 use Prim.Native.Nat.{_-_}
 use borrow.Author.Needs.{needs}
@@ -8,7 +8,7 @@ use lib.ListN.{length}
 use native.Mathlib.Omega.{arith}
 use Rattle.state.specs.State.{state}
 use Rattle.queue.specs.Reply.{queue}
-use Rattle.queue.proofs.Preparing.{Prepared, prepared-none, prepared-more, listed-refused, listed-few, listed-below, check-meets, listed-stopped, walk-meets, listed-done}
+use Rattle.queue.proofs.Preparing.{Prepared, prepared-none, prepared-more, listed-refused, listed-few, listed-below, check-meets, listed-stopped, list-meets, listed-done}
 use Rattle.queue.proofs.DemandThree.{both}
 use Rattle.queue.proofs.run_order.Statement.{statement}
 use Rattle.queue.proofs.run_order.Tie as tie
@@ -83,11 +83,11 @@ enum-told c = search needs
 begin-requires : tie.Need-begin-requires Inv-loop μ-loop
 begin-requires c κs = search needs
 
-walk-requires : tie.Need-walk-requires Inv-loop μ-loop
-walk-requires c κs =
+by-list-requires : tie.Need-by-list-requires Inv-loop μ-loop
+by-list-requires c κs =
     let told = c .before .before .before in let v = told .before .before in let out = v .before .before in let at = out .before in let e = at .before in let d = e .before .before in let z = d .before .before .before .before .before .args in
     let q = queue (z .opcodes .now) (z .cntrls .now) (z .scalars .now) in let fine = sym (e .before .is-done .ensures) ∙ not-false _ (e .if1 .left) in
-    walk-meets q (z .elements .now) (z .control) (d .accept .result .reply) _ (d .accept .ensures) fine _ _ _ _ (at .loop .inv) (out .loop-test .left) (z .list .now) (v .check .result) (v .check .ensures) (told .enum-told .given .1) _ (c .begin .ensures)
+    list-meets q (z .elements .now) (z .control) (d .accept .result .reply) _ (d .accept .ensures) fine _ _ _ _ (at .loop .inv) (out .loop-test .left) (z .list .now) (v .check .result) (v .check .ensures) (told .enum-told .given .1) _ (c .begin .ensures)
 
 end-requires : tie.Need-end-requires Inv-loop μ-loop
 end-requires c κs = search needs
@@ -99,7 +99,7 @@ returns-2 : tie.Need-returns-2 Inv-loop μ-loop
 returns-2 c =
     let b = c .before .before in let told = b .before .before .before in let v = told .before .before in let out = v .before .before in let at = out .before in let e = at .before in let d = e .before .before in let z = d .before .before .before .before .before .args in
     let q = queue (z .opcodes .now) (z .cntrls .now) (z .scalars .now) in let fine = sym (e .before .is-done .ensures) ∙ not-false _ (e .if1 .left) in
-    both q (z .list .now) (state (z .elements .now) (z .control)) _ (listed-done q (z .elements .now) (z .control) (d .accept .result .reply) _ (d .accept .ensures) fine _ _ _ _ (at .loop .inv) (out .loop-test .left) (z .list .now) (v .check .result) (v .check .ensures) (told .enum-told .given .1) _ (b .begin .ensures) _ _ _ (c .end .ensures) (c .before .walk .ensures))
+    both q (z .list .now) (state (z .elements .now) (z .control)) _ (listed-done q (z .elements .now) (z .control) (d .accept .result .reply) _ (d .accept .ensures) fine _ _ _ _ (at .loop .inv) (out .loop-test .left) (z .list .now) (v .check .result) (v .check .ensures) (told .enum-told .given .1) _ (b .begin .ensures) _ _ _ (c .end .ensures) (c .before .by-list .ensures))
 
 returns-3 : tie.Need-returns-3 Inv-loop μ-loop
 returns-3 c =
@@ -129,7 +129,7 @@ run-order-spec =
     check-requires
     enum-told
     begin-requires
-    walk-requires
+    by-list-requires
     end-requires
     enum-known-place
     returns-2

@@ -5,7 +5,7 @@ use borrow.Author.Needs.{needs}
 use lib.ListN.{length}
 use Rattle.machine.specs.Run.{run}
 use Rattle.queue.specs.Tables.{actBy}
-use Rattle.queue.proofs.RunLoop.{RunInv, run-start, run-one, run-on, run-end, act-vlr, run-vlr}
+use Rattle.queue.proofs.RunLoop.{RunInv, run-start, run-one, run-end, act-vlr}
 use Rattle.queue.proofs.Through.{vlrOf}
 use Rattle.queue.proofs.runs.walk.Statement.{statement}
 use Rattle.queue.proofs.runs.walk.Tie as tie
@@ -19,9 +19,6 @@ abbrev μ-loop : tie.MeasureT-loop
 loop-holds : tie.Need-loop-holds Inv-loop μ-loop
 loop-holds c = (refl, run-start _ _ _)
 
-sub-if1 : tie.Need-sub-if1 Inv-loop μ-loop
-sub-if1 c = search needs
-
 mul-enter : tie.Need-mul-enter Inv-loop μ-loop
 mul-enter c = search needs
 
@@ -30,8 +27,8 @@ shared-slice-read-enter c = search needs
 
 enter-requires : tie.Need-enter-requires Inv-loop μ-loop
 enter-requires c κs =
-    let at = c .before .before .before .before in let s = at .before .before .before in
-    ((rw (at .loop .inv .0) (s .pre .0 .0), s .pre .0 .1, s .pre .1 .1 .0 (at .loop .i) (c .before .before .before .loop-test .taken)), s .pre .1 .0)
+    let at = c .before .before .before in let s = at .before .before .before in
+    ((rw (at .loop .inv .0) (s .pre .0 .0), s .pre .0 .1, s .pre .1 .1 (at .loop .i) (c .before .before .loop-test .taken)), s .pre .1 .0)
 
 add-i : tie.Need-add-i Inv-loop μ-loop
 add-i c = search needs
@@ -41,25 +38,8 @@ loop-less c = search needs
 
 loop-again : tie.Need-loop-again Inv-loop μ-loop
 loop-again c =
-    let at = c .before .before .before .before .before in let a = at .before .before .before .args in
-    (ap vlrOf (c .enter .ensures) ∙ act-vlr _ (a .scalars .now) _ _ ∙ at .loop .inv .0, run-one _ _ _ _ _ (at .loop .inv .1) (c .before .before .before .before .loop-test .taken) _ (c .enter .ensures))
-
-advance-requires : tie.Need-advance-requires Inv-loop μ-loop
-advance-requires c κs =
-    let at = c .before .before .before in let s = at .before .before .before in
-    let v = at .loop .inv .0 in
-    ((rw v (s .pre .0 .0), s .pre .0 .1, search needs), (s .pre .1 .0, (s .pre .1 .1 .0, rw v (s .pre .1 .1 .1))))
-
-add-i-2 : tie.Need-add-i-2 Inv-loop μ-loop
-add-i-2 c = search needs
-
-loop-less-2 : tie.Need-loop-less-2 Inv-loop μ-loop
-loop-less-2 c = search needs
-
-loop-again-2 : tie.Need-loop-again-2 Inv-loop μ-loop
-loop-again-2 c =
     let at = c .before .before .before .before in let a = at .before .before .before .args in
-    (ap vlrOf (c .advance .ensures) ∙ run-vlr _ (a .scalars .now) _ _ ∙ at .loop .inv .0, run-on _ _ _ _ _ _ (at .loop .inv .1) (search needs) _ (c .advance .ensures))
+    (ap vlrOf (c .enter .ensures) ∙ act-vlr _ (a .scalars .now) _ _ ∙ at .loop .inv .0, run-one _ _ _ _ _ (at .loop .inv .1) (c .before .before .before .loop-test .taken) _ (c .enter .ensures))
 
 returns : tie.Need-returns Inv-loop μ-loop
 returns c = run-end _ _ _ _ _ (c .before .loop .inv .1) (c .loop-test .left)
@@ -71,15 +51,10 @@ walk-spec =
     Inv-loop
     μ-loop
     loop-holds
-    sub-if1
     mul-enter
     shared-slice-read-enter
     enter-requires
     add-i
     loop-less
     loop-again
-    advance-requires
-    add-i-2
-    loop-less-2
-    loop-again-2
     returns)
