@@ -20,6 +20,7 @@ pub mod Calls
 pub mod Sets
 pub mod Filling
 pub mod Touching
+pub mod Groups
 pub mod Sweeping
 pub mod Coming
 pub mod CheckLoop

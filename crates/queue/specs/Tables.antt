@@ -124,6 +124,10 @@ everywhere came (suc n) = bitAnd (everywhere came n) (getD came n 0)
 abbrev pub ready : ℕ → ℕ → ℕ → Bool
 ready bound came p = not (bit came p) && within bound came
 
+-- a position and those that it is bound to: its step may come where of these only itself has not. An IOTA's waits for every element, and has none here
+abbrev pub groupOf : ℕ → List ℕ → ℕ → ℕ
+groupOf iotas bound k = pick (bit iotas k) 0 (joined (getD bound k 0) k)
+
 -- x may come next: IOTA's one step waits for every element, any other for its own
 unfoldable pub mayCome : ℕ → ℕ → List ℕ → List ℕ → ℕ → Bool
 mayCome n iotas bound came x =

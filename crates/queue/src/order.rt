@@ -5,10 +5,12 @@ ghost use mathlib.Core.Path.{_≡_};
 ghost use mathlib.Core.Bool.{true, false, _&&_};
 ghost use Prim.Native.Nat.{ℕ, _≤_, _<_};
 ghost use lib.Dec.{eqb};
-ghost use lib.ListN.{length, getD};
-ghost use Rattle.numbers.specs.Bits.{bit};
+ghost use lib.Bits.{bitAnd};
+ghost use lib.ListN.{length, getD, set};
+ghost use Rattle.numbers.specs.Choice.{pick};
+ghost use Rattle.numbers.specs.Bits.{bit, complement};
 ghost use Rattle.queue.specs.Touch.{position, element};
-ghost use Rattle.queue.specs.Tables.{joined, within as withinOf, everywhere as everywhereOf, ready as readyOf, mayCome, Came, Started, verdictBy};
+ghost use Rattle.queue.specs.Tables.{joined, within as withinOf, everywhere as everywhereOf, ready as readyOf, groupOf, mayCome, Came, Started, verdictBy};
 
 // Every position of the first set is in the second.
 fn within(a: u64, b: u64) -> bool
@@ -78,34 +80,104 @@ fn iota_comes(came: &mut [u64; 64], bound: u64, x: u64) -> bool
     true
 }
 
-// Any other step comes, if it may.
-fn step_comes(came: &mut [u64; 64], bound: u64, x: u64) -> bool
-    requires { ⌜ (length (now came) ≡ 64) × (position x < 16) ⌝ }
-    ensures { λ r. ⌜ (r ≡ readyOf bound (getD (now (came .entry)) (element x) 0) (position x)) × (r ≡ true → Came false x (now (came .entry)) (now (came .exit))) ⌝ }
+// The group of a position.
+fn group(iota: bool, bound: u64, p: usize) -> u64
+    requires { ⌜ p < 64 ⌝ }
+    ensures { λ r. ⌜ r ≡ pick iota 0 (joined bound p) ⌝ }
+{
+    if iota {
+        return 0;
+    }
+    bound | (1 << p)
+}
+
+// The groups of the first n positions.
+fn gather(groups: &mut [u64; 16], n: usize, iotas: u64, bound: &[u64; 16])
+    requires { ⌜ (length (now groups) ≡ 16) × (n ≤ 16) ⌝ }
+    ensures { λ r. ⌜ ((p : ℕ) → p < n → getD (now (groups .exit)) p 0 ≡ groupOf iotas (now (bound .entry)) p) ⌝ }
+{
+    let mut p: usize = 0;
+    while p < n {
+        groups[p] = group(bits::bit(iotas, p), bound[p], p);
+        p += 1;
+    }
+}
+
+// The set of element e, which is then the one that is kept out of the table.
+fn fetch(came: &mut [u64; 64], at: usize, kept: u64, e: usize) -> u64
+    requires { ⌜ (length (now came) ≡ 64) × (at < 64) × (e < 64) ⌝ }
+    ensures { λ r. ⌜ set (now (came .exit)) e r ≡ set (now (came .entry)) at kept ⌝ }
+{
+    if e == at {
+        return kept;
+    }
+    came[at] = kept;
+    came[e]
+}
+
+// Of a group, the positions that are still to come.
+fn missing(group: u64, came: u64) -> u64
+    ensures { λ r. ⌜ r ≡ bitAnd group (complement 64 came) ⌝ }
+{
+    group & !came
+}
+
+// Whether an entry may come; and the element whose set is kept out of the table, with the set.
+struct Pass {
+    may: bool,
+    at: usize,
+    kept: u64,
+}
+
+// The entry x comes, if it may. The set of the last entry's element is kept out of the table: in it, each of an element's entries in a row would wait
+// until the one before has been stored.
+fn passes(
+    came: &mut [u64; 64],
+    n: usize,
+    iotas: u64,
+    bound: &[u64; 16],
+    groups: &[u64; 16],
+    at: usize,
+    kept: u64,
+    x: u64,
+) -> Pass
+    requires { ⌜ (length (now came) ≡ 64) × (n ≤ 16) × (at < 64) ⌝ }
+    requires { ⌜ ((p k : ℕ) → p < n → bit (getD (now bound) p 0) k ≡ true → k < p) ⌝ }
+    requires { ⌜ ((p : ℕ) → p < n → getD (now groups) p 0 ≡ groupOf iotas (now bound) p) ⌝ }
+    ensures { λ r. ⌜ (r .may ≡ mayCome n iotas (now (bound .entry)) (set (now (came .entry)) at kept) x) × (r .may ≡ true → (r .at < 64) × Came (bit iotas (position x)) x (set (now (came .entry)) at kept) (set (now (came .exit)) (r .at) (r .kept))) ⌝ }
 {
     let p = (x / 64) as usize;
     let e = (x % 64) as usize;
-    let there = came[e];
-    if !ready(bound, there, p) {
-        return false;
-    }
-    came[e] = there | (1 << p);
-    true
-}
-
-// The entry x comes, if it may.
-fn comes(came: &mut [u64; 64], n: usize, iotas: u64, bound: &[u64; 16], x: u64) -> bool
-    requires { ⌜ (length (now came) ≡ 64) × (n ≤ 16) ⌝ }
-    ensures { λ r. ⌜ (r ≡ mayCome n iotas (now (bound .entry)) (now (came .entry)) x) × (r ≡ true → Came (bit iotas (position x)) x (now (came .entry)) (now (came .exit))) ⌝ }
-{
-    let p = (x / 64) as usize;
     if p >= n {
-        return false;
+        return Pass {
+            may: false,
+            at,
+            kept,
+        };
     }
-    if bits::bit(iotas, p) {
-        return iota_comes(&mut *came, bound[p], x);
+    let here = fetch(&mut *came, at, kept, e);
+    let left = missing(groups[p], here);
+    if left == 1 << p {
+        return Pass {
+            may: true,
+            at: e,
+            kept: here | left,
+        };
     }
-    step_comes(&mut *came, bound[p], x)
+    if !bits::bit(iotas, p) {
+        return Pass {
+            may: false,
+            at: e,
+            kept: here,
+        };
+    }
+    came[e] = here;
+    let may = iota_comes(&mut *came, bound[p], x);
+    Pass {
+        may,
+        at: e,
+        kept: came[e],
+    }
 }
 
 // The pass over the list. It never reads past the first bad entry.
@@ -116,14 +188,30 @@ pub fn check(n: usize, vlr: u64, iotas: u64, bound: &[u64; 16], list: &[u64]) ->
 {
     let mut came = [0u64; 64];
     start(&mut came, vlr, iotas);
+    let mut groups = [0u64; 16];
+    gather(&mut groups, n, iotas, bound);
+    let mut at: usize = 0;
+    let mut kept = came[0];
     let mut i: usize = 0;
     while i < list.len() {
-        let x = list[i];
-        if !comes(&mut came, n, iotas, bound, x) {
+        let pass = passes(
+            &mut came,
+            n,
+            iotas,
+            bound,
+            &groups,
+            at,
+            kept,
+            list[i],
+        );
+        if !pass.may {
             return Verdict::Refused(i as u64);
         }
+        at = pass.at;
+        kept = pass.kept;
         i += 1;
     }
+    came[at] = kept;
     if within((1 << n) - 1, everywhere(&came)) {
         Verdict::Permitted
     } else {
