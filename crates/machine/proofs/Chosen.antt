@@ -1,21 +1,20 @@
--- The work of the elements of a set: of all that an instruction operates on it is the instruction, of some of them it is their steps. Assumes nothing.
-use mathlib.Core.Path.{_≡_, refl, sym, ap, ap₂, _∙_, subst}
+-- The work of the set of all elements that an instruction operates on is the instruction, and of one of them its step. Assumes nothing.
+use mathlib.Core.Path.{_≡_, refl, sym, ap, ap₂, _∙_}
 use mathlib.Core.Bool.{Bool, true, false, not, _||_, _&&_, Bool·beq}
-use Prim.Native.Nat.{ℕ, zero, suc, _%_, _^_, _≤_, _<_}
+use Prim.Native.Nat.{ℕ, zero, suc, _%_, _≤_, _<_}
 use native.Mathlib.Nat.{mod-lt, le-refl}
 use native.Mathlib.Omega.{arith}
 use borrow.Author.Tests.{ltb-true, le-ltb}
-use lib.Bits.{bitAnd}
 use lib.ListN.{set}
 use lib.Dec.{ltb}
 use Rattle.numbers.specs.Choice.{pick}
 use Rattle.numbers.specs.Bits.{bit, withBit, chosen, OnesBelow}
 use Rattle.numbers.specs.Rising.{rising, ofOnes}
 use Rattle.numbers.proofs.BitLaws.{bit-kept, bit-replaced, decEq}
-use Rattle.numbers.proofs.Sets.{bit-and, bit-none}
+use Rattle.numbers.proofs.Sets.{bit-none}
 use Rattle.numbers.proofs.Rising.{settles}
-use Rattle.numbers.proofs.SetBits.{starts-walk, ends-walk, single, has-one}
-use Rattle.numbers.proofs.Tests.{true-not-false, and-left, and-right, pick-true, pick-false}
+use Rattle.numbers.proofs.SetBits.{single}
+use Rattle.numbers.proofs.Tests.{true-not-false, and-left, pick-true, pick-false}
 use Rattle.state.specs.declared.Control.{Control}
 use Rattle.state.specs.State.{placeOf}
 use Rattle.state.specs.Elements.{matches}
@@ -24,7 +23,7 @@ use Rattle.machine.specs.Kind.{kindOf, isCompare, isMerge, isIota}
 use Rattle.machine.specs.Run.{Run, run, progress, withVmr, gathered}
 use Rattle.machine.specs.Step.{operated, received, written, worked, elementStep}
 use Rattle.machine.specs.Iota.{iotaStep}
-use Rattle.machine.specs.Instruction.{stepOf, stepsBelow, stepsIn, wholeOf}
+use Rattle.machine.specs.Instruction.{stepOf, stepsBelow, wholeOf}
 use Rattle.machine.specs.Loops.{doneFor}
 
 -- IOTA's one step is the whole instruction
@@ -82,11 +81,6 @@ module _ (ins : Instruction) (scalar which : ℕ) (r : Run) where
       at true = keeps-bit ins scalar n (after n) j (λ e. omega arith)
       at false = refl
 
--- the steps of a set of one element are that element's step
-pub alone : (ins : Instruction) (scalar i part : ℕ) (r : Run) → i < 64 → bit part i ≡ true → ((j : ℕ) → j < 64 → bit part j ≡ true → j ≡ i) → stepsIn part ins scalar r ≡ stepOf ins scalar i r
-unfolding stepsIn
-alone ins scalar i part r h one only = single (stepOf ins scalar) r i part h one only
-
 -- ---- the set of the elements that an instruction operates on
 module _ (ins : Instruction) (scalar all : ℕ) (r : Run) (short : r .progress .control .vlr ≤ 64) where
   abbrev merge : Bool
@@ -114,38 +108,25 @@ module _ (ins : Instruction) (scalar all : ℕ) (r : Run) (short : r .progress .
       unfolding stepOf
       of-element n x = pick-false (isIota (kindOf (ins .work))) (iotaStep ins scalar x) (elementStep ins scalar n x) no-iota
 
-      -- the steps that p chooses: the work of those of them that are operated on
-      module _ (p : ℕ → Bool) (which : ℕ) (those : (i : ℕ) → bit which i ≡ (p i && bit all i)) where
-        both : (s t : Bool) (x y : Run) → pick s (pick t x y) y ≡ pick (s && t) x y
-        both true t x y = refl
-        both false t x y = refl
-
-        same-steps : (n : ℕ) → rising (λ (i : ℕ) (x : Run). pick (p i) (stepOf ins scalar i x) x) n r ≡ rising (ofOnes (worked ins scalar) which) n r
-        unfolding rising ofOnes elementStep
-        same-steps zero = refl
-        same-steps (suc n) =
-            ap (λ (x : Run). pick (p n) (stepOf ins scalar n x) x) (same-steps n)
-            ∙ ap (λ (x : Run). pick (p n) x here)
-            (of-element n here
-            ∙ ap (λ (t : Bool). pick t (worked ins scalar n here) here)
-            (is-operated n (here .progress .control) (stays-vlr ins scalar which r n) (stays-bit ins scalar which r n n (le-refl n))))
-            ∙ both (p n) (bit all n) (worked ins scalar n here) here
-            ∙ ap (λ (t : Bool). pick t (worked ins scalar n here) here) (sym (those n))
-          where
-            here : Run
-            here = after ins scalar which r n
-
-      steps-rise : (n : ℕ) → stepsBelow n ins scalar r ≡ rising (λ (i : ℕ) (x : Run). stepOf ins scalar i x) n r
-      unfolding stepsBelow rising
-      steps-rise zero = refl
-      steps-rise (suc n) = ap (stepOf ins scalar n) (steps-rise n)
+      -- the steps of the elements below n: the work of those of them that are operated on
+      same-steps : (n : ℕ) → stepsBelow n ins scalar r ≡ rising (ofOnes (worked ins scalar) all) n r
+      unfolding stepsBelow rising ofOnes elementStep
+      same-steps zero = refl
+      same-steps (suc n) =
+          ap (stepOf ins scalar n) (same-steps n)
+          ∙ of-element n here
+          ∙ ap (λ (t : Bool). pick t (worked ins scalar n here) here)
+          (is-operated n (here .progress .control) (stays-vlr ins scalar all r n) (stays-bit ins scalar all r n n (le-refl n)))
+        where
+          here : Run
+          here = after ins scalar all r n
 
       all-steps : rising (ofOnes (worked ins scalar) all) 64 r ≡ wholeOf ins scalar r
       unfolding wholeOf ofOnes
       all-steps =
           sym (settles (ofOnes (worked ins scalar) all) (after ins scalar all r vlr) r vlr 64 short
           (λ j h _. pick-false (bit all j) (worked ins scalar j (after ins scalar all r vlr)) (after ins scalar all r vlr) (past j h)) refl)
-          ∙ sym (steps-rise vlr ∙ same-steps (λ _. true) all (λ i. refl) vlr)
+          ∙ sym (same-steps vlr)
           ∙ ap (λ (t : Bool). stepsBelow (pick t 1 vlr) ins scalar r) (sym no-iota)
         where
           vlr : ℕ
@@ -175,22 +156,6 @@ module _ (ins : Instruction) (scalar all : ℕ) (r : Run) (short : r .progress .
         at true e = one-step ins scalar r e
         at false e = all-steps e
 
-    -- those of a set are its steps; of an IOTA there is one, that of element 0
-    pub some : (part which : ℕ) → 0 < part → part < 2 ^ 64 → (isIota (kindOf (ins .work)) ≡ true → (i : ℕ) → i < 64 → bit part i ≡ true → i ≡ 0) → which ≡ bitAnd part all
-        → doneFor which ins scalar r ≡ stepsIn part ins scalar r
-    unfolding doneFor stepsIn ofOnes stepOf
-    some part which more word only e = at (isIota (kindOf (ins .work))) refl
-      where
-        at : (t : Bool) → isIota (kindOf (ins .work)) ≡ t → pick t (iotaStep ins scalar r) (rising (ofOnes (worked ins scalar) which) 64 r) ≡ rising (ofOnes (stepOf ins scalar) part) 64 r
-        at true k = sym (alone ins scalar 0 part r (omega arith) first (only k) ∙ its-step)
-          where
-            first : bit part 0 ≡ true
-            first = let w = has-one part more word in subst (λ (i : ℕ). bit part i ≡ true) (only k (w .0) (w .1) (w .2)) (w .2)
-
-            its-step : stepOf ins scalar 0 r ≡ iotaStep ins scalar r
-            its-step = pick-true (isIota (kindOf (ins .work))) (iotaStep ins scalar r) (elementStep ins scalar 0 r) k
-        at false k = sym (same-steps k (bit part) which (λ i. ap (λ (x : ℕ). bit x i) e ∙ bit-and part all i) 64)
-
 -- the work of one element
 pub one-done : (ins : Instruction) (scalar i : ℕ) (r : Run) → i < 64 → isIota (kindOf (ins .work)) ≡ false → doneFor (withBit 0 i 1) ins scalar r ≡ worked ins scalar i r
 unfolding doneFor
@@ -206,16 +171,6 @@ one-done ins scalar i r h no-iota =
 pub iota-done : (ins : Instruction) (scalar i which : ℕ) (r : Run) → isIota (kindOf (ins .work)) ≡ true → doneFor which ins scalar r ≡ stepOf ins scalar i r
 unfolding doneFor stepOf
 iota-done ins scalar i which r e = pick-true (isIota (kindOf (ins .work))) _ _ e ∙ sym (pick-true (isIota (kindOf (ins .work))) _ _ e)
-
--- of no element nothing is done
-pub none : (ins : Instruction) (scalar part : ℕ) (r : Run) → part ≡ 0 → r ≡ stepsIn part ins scalar r
-unfolding stepsIn
-none ins scalar part r e = ends-walk (stepOf ins scalar) part 64 r part r (starts-walk (stepOf ins scalar) part 64 r (omega arith)) e
-
--- ---- where sets lie
--- a part of a set that lies below n
-pub part-below : (part all which n : ℕ) → which ≡ bitAnd part all → ((j : ℕ) → bit all j ≡ true → j < n) → (j : ℕ) → bit which j ≡ true → j < n
-part-below part all which n e lies j g = lies j (and-right (bit part j) (bit all j) (sym (bit-and part all j) ∙ ap (λ (x : ℕ). bit x j) (sym e) ∙ g))
 
 -- a set below n lies below n
 pub below : (n : ℕ) (choice : ℕ → Bool) (which : ℕ) → OnesBelow n choice which → (j : ℕ) → bit which j ≡ true → j < n

@@ -1,4 +1,4 @@
-// A whole register instruction, one step of it, and some of its steps together.
+// A whole register instruction, and one step of it.
 use crate::Effect;
 use crate::Progress;
 use crate::iota;
@@ -15,7 +15,7 @@ ghost use Rattle.numbers.specs.Bits.{bit, chosen, OnesBelow};
 ghost use Rattle.machine.specs.Run.{run as runOf};
 ghost use Rattle.machine.specs.Kind.{kindOf, isMerge, isIota};
 ghost use Rattle.machine.specs.Step.{registerBit, notes, worked};
-ghost use Rattle.machine.specs.Instruction.{stepOf, stepsIn, wholeOf};
+ghost use Rattle.machine.specs.Instruction.{stepOf, wholeOf};
 ghost use Rattle.machine.specs.Loops.{matched as matchedOf, effected as effectedOf, doneFor};
 
 // The bit of a register in VAER.
@@ -178,28 +178,5 @@ pub fn step(
         return progress;
     }
     let done = one(elements, instruction, scalar, i, vmr, vcr);
-    effected(progress, done)
-}
-
-// The steps of the elements of a set, in rising order: each does the work of its element alone. An IOTA has one, that of element 0.
-pub fn steps(
-    elements: &mut [u64; 1024],
-    progress: Progress,
-    instruction: Instruction,
-    scalar: u64,
-    part: u64,
-) -> Progress
-    requires { ⌜ (instruction .va .0 < 16) × (instruction .vb .0 < 16) × (instruction .vc .0 < 16) × (progress .control .vlr ≤ 64) ⌝ }
-    requires { ⌜ (isIota (kindOf (instruction .work)) ≡ true → (i : ℕ) → i < 64 → bit part i ≡ true → i ≡ 0) ⌝ }
-    ensures { λ r. ⌜ runOf (now (elements .exit)) r ≡ stepsIn part instruction scalar (runOf (now (elements .entry)) progress) ⌝ }
-{
-    if part == 0 {
-        return progress;
-    }
-    let vlr = progress.control.vlr;
-    let vmr = progress.control.vmr;
-    let vcr = progress.control.vcr;
-    let which = part & operated(instruction, vlr, vmr);
-    let done = effect(elements, instruction, scalar, which, vlr, vmr, vcr);
     effected(progress, done)
 }

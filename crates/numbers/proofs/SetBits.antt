@@ -275,10 +275,6 @@ module _ {A : Type 0} (f : ℕ → A → A) (a : A) where
       below : a ≡ rising g e a
       below = settles g a a 0 e (omega arith) (λ j _ k. no-step f x j a (other j (omega arith) (λ q. omega arith))) (starts g a)
 
--- a set that is not empty has a number
-pub has-one : (x : ℕ) → 0 < x → x < 2 ^ 64 → (i : ℕ) × (i < 64) × (bit x i ≡ true)
-has-one x h small = let w = lowest 64 x h small in (trailingZeros 64 x, inside x (trailingZeros 64 x) w 64 small, bit-is x (trailingZeros 64 x) 1 (w .one))
-
 -- the next one is above the one that is taken
 pub rises : (left : ℕ) → 0 < left → left < 2 ^ 64 → lowestOne left < lowestOne (withoutBit left (lowestOne left))
 rises left some narrow = at (below-or-not 0 rest)

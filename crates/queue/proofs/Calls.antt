@@ -124,11 +124,13 @@ module _ (q : Queue) (l : List ℕ) (c : Control) (r : Reply) (asked : replyAnsw
       entry-of x m = let w = place x list (length list) (rw take-length m) in subst (λ (y : ℕ). position y < size q) (w .3) (entry-position (w .0) (w .1))
 
       pub ends-alike : Ignores → EndsAlike program (q .scalars) list (c .vlr)
-      ends-alike ig = record { same = λ s v.
-          ap (λ (n : ℕ). throughBy program (q .scalars) n s) (reply-accepted f .lengths .scalars)
-          ∙ same-through q program same (size q) (omega arith) s
-          ∙ sym (permitted-straight ig q s (rw v (reply-accepted f .short)) list (rw v allowed))
-          ∙ sym (run-same (actBy program (q .scalars)) (act q) list (λ x m z. same-acts q program same x (entry-of x m) z) s) }
+      ends-alike ig = record {
+        same = λ s v.
+            ap (λ (n : ℕ). throughBy program (q .scalars) n s) (reply-accepted f .lengths .scalars)
+            ∙ same-through q program same (size q) (omega arith) s
+            ∙ sym (permitted-straight ig q s (rw v (reply-accepted f .short)) list (rw v allowed))
+            ∙ sym (run-same (actBy program (q .scalars)) (act q) list (λ x m z. same-acts q program same x (entry-of x m) z) s);
+      }
 
       pub order-done : Ignores → (l′ : List ℕ) (p p′ : Progress) (c′ : Control) → p ≡ progress c false → c′ ≡ ended p′
           → run l′ p′ ≡ walkOf (actBy program (q .scalars)) list (run l p)

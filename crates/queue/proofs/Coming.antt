@@ -110,18 +110,20 @@ module _ (n iotas : ℕ) (bound came came′ : List ℕ) (x at kept here : ℕ) 
         where
           none : 2 ^ position x ≡ 0 → ⊥
           none f = let p = pow-pos (position x) in omega arith
-      plain false z e =
-          (refl, alone→ready (getD bound (position x) 0) here (position x) word (omega arith) earlier
-          (sym (are ∙ ap (λ (g : ℕ). bitAnd g (complement 64 here)) (is ∙ ap group-by z)) ∙ e ∙ one-shifted (position x) 64 (omega arith)))
+      plain false z e = (
+        refl,
+        alone→ready (getD bound (position x) 0) here (position x) word (omega arith) earlier
+            (sym (are ∙ ap (λ (g : ℕ). bitAnd g (complement 64 here)) (is ∙ ap group-by z)) ∙ e ∙ one-shifted (position x) 64 (omega arith)),
+      )
 
       pub pass-step : left ≡ 1 * 2 ^ position x % 18446744073709551616 → Passes true (element x) (set came′ (element x) (bitOr here left))
       pass-step e =
           let q = plain (bit iotas (position x)) refl e in
           let c = step-came table x long-table (omega arith) in
           let same : set came′ (element x) (bitOr here left) ≡ set table (element x) (bitOr (getD table (element x) 0) (1 * 2 ^ position x % 18446744073709551616))
-              = stored (bitOr here left) ∙ ap₂ (λ (a b : ℕ). set table (element x) (bitOr a b)) (sym its-set) e in
+          = stored (bitOr here left) ∙ ap₂ (λ (a b : ℕ). set table (element x) (bitOr a b)) (sym its-set) e in
           let r = may-by n iotas bound table x (set came′ (element x) (bitOr here left)) inside (bit iotas (position x)) false true refl (q .0)
-              (sym (ap (λ (s : ℕ). ready (getD bound (position x) 0) s (position x)) its-set ∙ q .1), λ f. subst (Came false x table) (sym same) c) in
+          (sym (ap (λ (s : ℕ). ready (getD bound (position x) 0) s (position x)) its-set ∙ q .1), λ f. subst (Came false x table) (sym same) c) in
           (r .0, λ f. (omega arith, r .1 f))
 
       pub pass-not : (left ≡ 1 * 2 ^ position x % 18446744073709551616 → ⊥) → bit iotas (position x) ≡ false → (e : ℕ) (after : List ℕ) → Passes false e after
@@ -142,5 +144,5 @@ module _ (n iotas : ℕ) (bound came came′ : List ℕ) (x at kept here : ℕ) 
       → Passes may (element x) (set after (element x) (getD after (element x) 0))
   pass-iota z may after r =
       let q = may-by n iotas bound table x after inside (bit iotas (position x)) true may refl z
-              (r .0 ∙ ap (λ (l : List ℕ). eqb (element x) 0 && ready (getD bound (position x) 0) (everywhere l 64) (position x)) fetched, λ f. subst (λ (l : List ℕ). Came true x l after) fetched (r .1 f)) in
+      (r .0 ∙ ap (λ (l : List ℕ). eqb (element x) 0 && ready (getD bound (position x) 0) (everywhere l 64) (position x)) fetched, λ f. subst (λ (l : List ℕ). Came true x l after) fetched (r .1 f)) in
       (q .0, λ f. (omega arith, subst (Came (bit iotas (position x)) x table) (sym (set-getD after (element x) 0)) (q .1 f)))

@@ -1,9 +1,9 @@
 -- What the code of a queue computes with: the check's tables (proofs/Verdicts.antt proves that they give the check of specs/Order.antt), the runs (proofs/Calls.antt)
 -- and acceptance (proofs/Accepting.antt). A set of positions is a number whose bit k says that position k is in it. No public promise cites this.
 use mathlib.Core.Path.{_≡_}
-use mathlib.Core.Bool.{Bool, true, false, not, _&&_, _||_}
+use mathlib.Core.Bool.{Bool, true, not, _&&_, _||_}
 use mathlib.Core.List.{List}
-use Prim.Native.Nat.{ℕ, zero, suc, _+_, _-_, _*_, _^_, _<_, _≤_}
+use Prim.Native.Nat.{ℕ, zero, suc, _-_, _*_, _^_, _<_, _≤_}
 use lib.Dec.{ltb, eqb}
 use lib.Bits.{bitAnd, bitOr}
 use lib.ListN.{length, getD, set}

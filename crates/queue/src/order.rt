@@ -194,16 +194,7 @@ pub fn check(n: usize, vlr: u64, iotas: u64, bound: &[u64; 16], list: &[u64]) ->
     let mut kept = came[0];
     let mut i: usize = 0;
     while i < list.len() {
-        let pass = passes(
-            &mut came,
-            n,
-            iotas,
-            bound,
-            &groups,
-            at,
-            kept,
-            list[i],
-        );
+        let pass = passes(&mut came, n, iotas, bound, &groups, at, kept, list[i]);
         if !pass.may {
             return Verdict::Refused(i as u64);
         }
