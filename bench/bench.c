@@ -476,6 +476,14 @@ static const struct instruction whole_numbers[QUEUE] = {
     { 0x80, EXC | 0xD36, 0, 0, 0 },         /* V6 = V13 + V3 */
 };
 
+/* The work whose straight run is the fastest: no queue's list has less to be measured by. */
+static const struct instruction exclusive_ors[QUEUE] = {
+    { 0xE8, 0x018, 0, 0, 0 }, { 0xE8, 0x129, 0, 0, 0 }, { 0xE8, 0x23A, 0, 0, 0 }, { 0xE8, 0x30B, 0, 0, 0 },
+    { 0xE8, 0x01C, 0, 0, 0 }, { 0xE8, 0x12D, 0, 0, 0 }, { 0xE8, 0x23E, 0, 0, 0 }, { 0xE8, 0x30F, 0, 0, 0 },
+    { 0xE8, 0x028, 0, 0, 0 }, { 0xE8, 0x139, 0, 0, 0 }, { 0xE8, 0x21A, 0, 0, 0 }, { 0xE8, 0x31B, 0, 0, 0 },
+    { 0xE8, 0x02C, 0, 0, 0 }, { 0xE8, 0x13D, 0, 0, 0 }, { 0xE8, 0x20E, 0, 0, 0 }, { 0xE8, 0x32F, 0, 0, 0 },
+};
+
 static const struct instruction heat_steps[QUEUE] = {
     { 0x8C, EXC | 0x018, 0, 0, 0 },         /* V8 = V0 - V1 */
     { 0xA5, EXC | 0x088, 0x3F00, 0, 0 },    /* V8 = 0.125 * V8 */
@@ -544,7 +552,7 @@ static void random_orders(void)
         random_order(orders[o]);
 }
 
-static char list_lines[4][160]; /* what a list costs beside the straight run of the same queue */
+static char list_lines[12][160]; /* what a list costs beside the straight run of the same queue */
 static int list_rows;
 
 static void by_list(const char *work, int n, const double straight[2])
@@ -554,34 +562,52 @@ static void by_list(const char *work, int n, const double straight[2])
              last_row[0] / straight[0], last_row[1] / straight[1]);
 }
 
+/* The queues, each with the operands of its works. */
+static const struct {
+    const struct instruction *instructions;
+    uint64_t (*operand)(void);
+    const char *straight, *lists[3];
+} queues_timed[] = {
+    { exclusive_ors, any, "16 exclusive ors",
+      { "exclusive ors, queue order", "exclusive ors, element after element", "exclusive ors, random order" } },
+    { whole_numbers, longword, "16 integer instructions",
+      { "integer, queue order", "integer, element after element", "integer, random order" } },
+    { heat_steps, ordinary, "16 mixed instructions",
+      { "mixed, queue order", "mixed, element after element", "mixed, random order" } },
+};
+enum { TIMED = sizeof queues_timed / sizeof queues_timed[0] };
+
+static void use_queue(int q)
+{
+    fill(queues_timed[q].operand, false);
+    set_queue(queues_timed[q].instructions);
+}
+
 static void queues(void)
 {
+    double straight[TIMED][2];
     begin("queue straight");
-    fill(longword, false);
-    set_queue(whole_numbers);
-    row("16 integer instructions", "element", passes_run, call_run, STATES, STEPS, 0, 0);
-    double straight_integer[2] = { last_row[0], last_row[1] };
-    fill(ordinary, false);
-    set_queue(heat_steps);
-    row("16 mixed instructions", "element", passes_run, call_run, STATES, STEPS, 0, 0);
-    double straight[2] = { last_row[0], last_row[1] };
+    for (int q = 0; q < TIMED; q++) {
+        use_queue(q);
+        row(queues_timed[q].straight, "element", passes_run, call_run, STATES, STEPS, 0, 0);
+        straight[q][0] = last_row[0], straight[q][1] = last_row[1];
+    }
     end("element");
 
     begin("queue by a list");
-    for (int o = 0; o < ORDERS; o++)
-        for (int k = 0; k < STEPS; k++)
-            orders[o][k] = (uint64_t)k;
-    by_list("queue order", STATES, straight);
-    for (int o = 0; o < ORDERS; o++)
-        for (int k = 0; k < STEPS; k++)
-            orders[o][k] = (uint64_t)(k % QUEUE * 64 + k / QUEUE);
-    by_list("element after element", STATES, straight);
-    random_orders();
-    by_list("random order", ORDERS * STATES, straight);
-    fill(longword, false);
-    set_queue(whole_numbers);
-    random_orders();
-    by_list("random order, integer", ORDERS * STATES, straight_integer);
+    for (int q = 0; q < TIMED; q++) {
+        use_queue(q);
+        for (int o = 0; o < ORDERS; o++)
+            for (int k = 0; k < STEPS; k++)
+                orders[o][k] = (uint64_t)k;
+        by_list(queues_timed[q].lists[0], STATES, straight[q]);
+        for (int o = 0; o < ORDERS; o++)
+            for (int k = 0; k < STEPS; k++)
+                orders[o][k] = (uint64_t)(k % QUEUE * 64 + k / QUEUE);
+        by_list(queues_timed[q].lists[1], STATES, straight[q]);
+        random_orders();
+        by_list(queues_timed[q].lists[2], ORDERS * STATES, straight[q]);
+    }
     end("entry");
 
     /* The last entry is a repeat; then the second is one too. Beside 9 stands its position. */

@@ -8,7 +8,7 @@ use element::Out;
 use numbers::bits;
 use opcodes::Instruction;
 ghost use mathlib.Core.Path.{_≡_};
-ghost use mathlib.Core.Bool.{true};
+ghost use mathlib.Core.Bool.{true, false};
 ghost use Prim.Native.Nat.{ℕ, _<_, _≤_, _/_};
 ghost use Rattle.numbers.specs.Bits.{bit};
 ghost use Rattle.machine.specs.declared.Progress.{Progress};
@@ -66,7 +66,55 @@ fn every(
     Found { found, refused }
 }
 
-// Longwords, with a constant for each relation: the compiler makes a loop for each.
+// Longwords with a scalar, with a constant for each relation: the compiler makes a loop for each.
+fn with_scalar(
+    elements: &[u64; 1024],
+    relation: u64,
+    x: u64,
+    va: usize,
+    vb: usize,
+    n: usize,
+) -> Found
+    requires { ⌜ (va < 16) × (vb < 16) × (n ≤ 64) ⌝ }
+    ensures found { λ r. ⌜ r .found ≡ oddFrom (λ i. comparedAt 4 relation true x va vb (now (elements .entry)) i .value) 0 n ⌝ }
+    ensures refused { λ r. ⌜ r .refused ≡ oddFrom (λ i. comparedAt 4 relation true x va vb (now (elements .entry)) i .types / 4) 0 n ⌝ }
+{
+    match relation {
+        0 => every(elements, 4, 0, true, x, va, vb, n),
+        1 => every(elements, 4, 1, true, x, va, vb, n),
+        2 => every(elements, 4, 2, true, x, va, vb, n),
+        4 => every(elements, 4, 4, true, x, va, vb, n),
+        5 => every(elements, 4, 5, true, x, va, vb, n),
+        6 => every(elements, 4, 6, true, x, va, vb, n),
+        _ => every(elements, 4, relation, true, x, va, vb, n),
+    }
+}
+
+// Longwords of two registers.
+fn of_registers(
+    elements: &[u64; 1024],
+    relation: u64,
+    x: u64,
+    va: usize,
+    vb: usize,
+    n: usize,
+) -> Found
+    requires { ⌜ (va < 16) × (vb < 16) × (n ≤ 64) ⌝ }
+    ensures found { λ r. ⌜ r .found ≡ oddFrom (λ i. comparedAt 4 relation false x va vb (now (elements .entry)) i .value) 0 n ⌝ }
+    ensures refused { λ r. ⌜ r .refused ≡ oddFrom (λ i. comparedAt 4 relation false x va vb (now (elements .entry)) i .types / 4) 0 n ⌝ }
+{
+    match relation {
+        0 => every(elements, 4, 0, false, x, va, vb, n),
+        1 => every(elements, 4, 1, false, x, va, vb, n),
+        2 => every(elements, 4, 2, false, x, va, vb, n),
+        4 => every(elements, 4, 4, false, x, va, vb, n),
+        5 => every(elements, 4, 5, false, x, va, vb, n),
+        6 => every(elements, 4, 6, false, x, va, vb, n),
+        _ => every(elements, 4, relation, false, x, va, vb, n),
+    }
+}
+
+// Longwords, by the form.
 fn longwords(
     elements: &[u64; 1024],
     relation: u64,
@@ -80,15 +128,10 @@ fn longwords(
     ensures found { λ r. ⌜ r .found ≡ oddFrom (λ i. comparedAt 4 relation scalar x va vb (now (elements .entry)) i .value) 0 n ⌝ }
     ensures refused { λ r. ⌜ r .refused ≡ oddFrom (λ i. comparedAt 4 relation scalar x va vb (now (elements .entry)) i .types / 4) 0 n ⌝ }
 {
-    match relation {
-        0 => every(elements, 4, 0, scalar, x, va, vb, n),
-        1 => every(elements, 4, 1, scalar, x, va, vb, n),
-        2 => every(elements, 4, 2, scalar, x, va, vb, n),
-        4 => every(elements, 4, 4, scalar, x, va, vb, n),
-        5 => every(elements, 4, 5, scalar, x, va, vb, n),
-        6 => every(elements, 4, 6, scalar, x, va, vb, n),
-        _ => every(elements, 4, relation, scalar, x, va, vb, n),
+    if scalar {
+        return with_scalar(elements, relation, x, va, vb, n);
     }
+    of_registers(elements, relation, x, va, vb, n)
 }
 
 // Longwords or F, by the work's number.
