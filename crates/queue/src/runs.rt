@@ -77,8 +77,8 @@ fn walk(
     progress
 }
 
-// The run of a permitted list: walked where that is within the limit of 3 times the straight run, which two entries for each instruction are. A longer list
-// is run straight through: that this ends where its entries end is demand 3 itself.
+// The run of a permitted list: walked at VLR 2 and below, where that is within the limit of 3 times the straight run. At a greater VLR it is run straight
+// through: that this ends where the entries end is demand 3 itself.
 pub fn by_list(
     elements: &mut [u64; 1024],
     begun: Progress,
@@ -92,7 +92,7 @@ pub fn by_list(
     requires { ⌜ EndsAlike program (now scalars) (now list) (begun .control .vlr) ⌝ }
     ensures { λ r. ⌜ runOf (now (elements .exit)) r ≡ run (actBy program (now (scalars .entry))) (now (list .entry)) (runOf (now (elements .entry)) begun) ⌝ }
 {
-    if list.len() <= 2 * scalars.len() {
+    if begun.control.vlr <= 2 {
         return walk(elements, begun, program, scalars, list);
     }
     straight(elements, begun, program, scalars)

@@ -4,9 +4,6 @@ use borrow.Author.Needs.{needs}
 use Rattle.queue.proofs.runs.by_list.Statement.{statement}
 use Rattle.queue.proofs.runs.by_list.Tie as tie
 
-mul-if1 : tie.Need-mul-if1
-mul-if1 c = search needs
-
 walk-requires : tie.Need-walk-requires
 walk-requires c κs = search needs
 
@@ -17,7 +14,7 @@ straight-requires : tie.Need-straight-requires
 straight-requires c κs = search needs
 
 returns-2 : tie.Need-returns-2
-returns-2 c = let s = c .before .before .before .before .before in c .straight .ensures ∙ s .pre .1 .1 .1 .same _ refl
+returns-2 c = let s = c .before .before .before .before .before .before in c .straight .ensures ∙ s .pre .1 .1 .1 .same _ refl
 
 pub by-list-spec : {M : Type 1} → statement M
-by-list-spec = tie.close (tie.spec mul-if1 walk-requires returns straight-requires returns-2)
+by-list-spec = tie.close (tie.spec walk-requires returns straight-requires returns-2)
