@@ -4,8 +4,8 @@
 //!
 //! Each call is put `cases` times (20,000 if not said; lists a quarter as often). Number, what stands
 //! beside it, all elements, all controls and all memory are compared, guard bytes around every lent
-//! slice too. The exit status is 1 if anything differed, or if some number that a call can give never
-//! came up.
+//! slice too. A queue that is done is put once more, to what it left. The exit status is 1 if anything
+//! differed, or if some number that a call can give, or some kind of list, never came up.
 
 use independent::generate::*;
 use independent::machine::*;
@@ -148,6 +148,8 @@ fn answer<T>(result: &Result<T, Refusal>, done: impl Fn(&T) -> u64) -> Answer {
 struct Report {
     /// How often each call gave each number.
     numbers: BTreeMap<&'static str, BTreeMap<u32, u64>>,
+    /// How often each kind of list came up.
+    lists: BTreeMap<&'static str, u64>,
     differences: u64,
 }
 
@@ -232,28 +234,33 @@ fn lend_queue(queue: &Queue) -> (Lent<u8>, Lent<u16>, Lent<u64>) {
 
 fn compare_run(random: &mut Random, cases: u64, report: &mut Report) {
     for _ in 0..cases {
-        let (state, queue) = (state(random), any_queue(random));
-        let expected = run(&state, &queue);
+        let (mut state, queue) = (state(random), any_queue(random));
         let mut lent = LentState::new(&state);
         let (mut opcodes, mut words, mut scalars) = lend_queue(&queue);
-        // SAFETY: as above.
-        let number = unsafe {
-            kuj_run(
-                lent.elements.pointer(),
-                lent.control.pointer(),
-                opcodes.pointer(),
-                queue.opcodes.len(),
-                words.pointer(),
-                queue.control_words.len(),
-                scalars.pointer(),
-                queue.scalars.len(),
-                &mut lent.beside,
-            )
-        };
-        let rest_same = lent.is_now(expected.as_ref().unwrap_or(&state));
-        report.case("run", (number, lent.beside), answer(&expected, |_| 0), rest_same, || {
-            format!("{queue:X?}; {}", controls_text(&state))
-        });
+        // A second call on what a done one left: 3 where something was recorded.
+        for _ in 0..2 {
+            let expected = run(&state, &queue);
+            // SAFETY: as above.
+            let number = unsafe {
+                kuj_run(
+                    lent.elements.pointer(),
+                    lent.control.pointer(),
+                    opcodes.pointer(),
+                    queue.opcodes.len(),
+                    words.pointer(),
+                    queue.control_words.len(),
+                    scalars.pointer(),
+                    queue.scalars.len(),
+                    &mut lent.beside,
+                )
+            };
+            let rest_same = lent.is_now(expected.as_ref().unwrap_or(&state));
+            report.case("run", (number, lent.beside), answer(&expected, |_| 0), rest_same, || {
+                format!("{queue:X?}; {}", controls_text(&state))
+            });
+            let Ok(after) = expected else { break };
+            state = after;
+        }
     }
 }
 
@@ -277,38 +284,86 @@ fn list_for(random: &mut Random, state: &State, queue: &Queue) -> Vec<u64> {
     order
 }
 
+/// What a list's case is counted as, so that a kind that never comes up is noticed.
+fn kind_of_list(state: &State, after: Result<&State, ()>, entries: usize) -> &'static str {
+    match after {
+        Err(()) if state.vlr <= 2 => "refused at VLR 2 and below",
+        Err(()) => "refused above VLR 2",
+        Ok(after) => match (state.vlr <= 2, after.vpsr & VEN == 0) {
+            (true, false) => "done at VLR 2 and below",
+            (true, true) => "done with an exception at VLR 2 and below",
+            (false, false) if entries == 1024 => "done, 1,024 entries",
+            (false, false) => "done above VLR 2",
+            (false, true) => "done with an exception above VLR 2",
+        },
+    }
+}
+
+const KINDS_OF_LISTS: [&str; 7] = [
+    "refused at VLR 2 and below",
+    "refused above VLR 2",
+    "done at VLR 2 and below",
+    "done with an exception at VLR 2 and below",
+    "done above VLR 2",
+    "done with an exception above VLR 2",
+    "done, 1,024 entries",
+];
+
+/// A state and a queue for a list: often at VLR 1 or 2, and now and then as long as they come.
+fn listed(random: &mut Random) -> (State, Queue) {
+    let (mut state, queue) = (state(random), any_queue(random));
+    match random.below(16) {
+        0..=5 => state.vlr = random.between(1, 2),
+        6 => {
+            state.vlr = 64;
+            return (state, full_queue(random));
+        }
+        _ => (),
+    }
+    (state, queue)
+}
+
 fn compare_run_order(random: &mut Random, cases: u64, report: &mut Report) {
     for _ in 0..cases {
-        let (state, queue) = (state(random), any_queue(random));
+        let (mut state, queue) = listed(random);
         let order = list_for(random, &state, &queue);
-        let expected = run_order(&state, &queue, &order);
-        // Demand 3, within the independent program itself.
-        if let Ok(after) = &expected {
-            assert_eq!(Ok(after), run(&state, &queue).as_ref(), "a permitted list ends as the straight run");
-        }
+        let accepted = accept(&state, &queue).is_ok();
         let mut lent = LentState::new(&state);
         let (mut opcodes, mut words, mut scalars) = lend_queue(&queue);
         let mut list = Lent::new(&order, UNWRITTEN);
-        // SAFETY: as above.
-        let number = unsafe {
-            kuj_run_order(
-                lent.elements.pointer(),
-                lent.control.pointer(),
-                opcodes.pointer(),
-                queue.opcodes.len(),
-                words.pointer(),
-                queue.control_words.len(),
-                scalars.pointer(),
-                queue.scalars.len(),
-                list.pointer(),
-                order.len(),
-                &mut lent.beside,
-            )
-        };
-        let rest_same = lent.is_now(expected.as_ref().unwrap_or(&state)) && list.is_now(&order);
-        report.case("run_order", (number, lent.beside), answer(&expected, |_| 0), rest_same, || {
-            format!("{queue:X?} list of {}; {}", order.len(), controls_text(&state))
-        });
+        // A second call on what a done one left: 3 where something was recorded.
+        for call in 0..2 {
+            let expected = run_order(&state, &queue, &order);
+            // Demand 3, within the independent program itself.
+            if let Ok(after) = &expected {
+                assert_eq!(Ok(after), run(&state, &queue).as_ref(), "a permitted list ends as the straight run");
+            }
+            // SAFETY: as above.
+            let number = unsafe {
+                kuj_run_order(
+                    lent.elements.pointer(),
+                    lent.control.pointer(),
+                    opcodes.pointer(),
+                    queue.opcodes.len(),
+                    words.pointer(),
+                    queue.control_words.len(),
+                    scalars.pointer(),
+                    queue.scalars.len(),
+                    list.pointer(),
+                    order.len(),
+                    &mut lent.beside,
+                )
+            };
+            let rest_same = lent.is_now(expected.as_ref().unwrap_or(&state)) && list.is_now(&order);
+            report.case("run_order", (number, lent.beside), answer(&expected, |_| 0), rest_same, || {
+                format!("{queue:X?} list of {}; {}", order.len(), controls_text(&state))
+            });
+            if call == 0 && accepted {
+                *report.lists.entry(kind_of_list(&state, expected.as_ref().map_err(|_| ()), order.len())).or_default() += 1;
+            }
+            let Ok(after) = expected else { break };
+            state = after;
+        }
     }
 }
 
@@ -553,6 +608,13 @@ fn main() -> ExitCode {
                 println!("{call} never came to {number}");
                 missing += 1;
             }
+        }
+    }
+    for kind in KINDS_OF_LISTS {
+        let count = report.lists.get(kind).copied().unwrap_or(0);
+        println!("lists {kind}: {count}");
+        if count == 0 {
+            missing += 1;
         }
     }
     println!("{} differ", report.differences);

@@ -364,6 +364,18 @@ pub fn queue(random: &mut Random) -> Vec<Instruction> {
         .collect()
 }
 
+/// An accepted queue of 16 register instructions, none of them an IOTA, so that each has VLR steps.
+pub fn full_queue(random: &mut Random) -> Queue {
+    let works: Vec<u8> = accepted_opcodes(false).into_iter().filter(|&opcode| opcode != 0xED).collect();
+    let instructions: Vec<Instruction> = (0..16)
+        .map(|_| {
+            let opcode = random.pick(&works);
+            Instruction { opcode, control_word: control_word(random, opcode, false), scalar: scalar(random) }
+        })
+        .collect();
+    Queue::of(&instructions)
+}
+
 /// A queue as it is handed in: now and then with a memory or reserved opcode, a reserved control word,
 /// more than 16 instructions, or parts of unequal length.
 pub fn any_queue(random: &mut Random) -> Queue {

@@ -7,7 +7,7 @@ use lib.ListN.{replicate, set}
 use lib.Ieee.{size}
 use Rattle.numbers.specs.Signed.{signed, low32, overflows}
 use Rattle.state.specs.declared.Control.{Control}
-use Rattle.state.specs.Answer.{done}
+use Rattle.state.specs.Answer.{done, orderRefused}
 use Rattle.state.specs.State.{State, state, inRange}
 use Rattle.opcodes.specs.Opcodes.{opcodeOf}
 use Rattle.opcodes.specs.ControlWord.{refused, controlWordOf}
@@ -17,7 +17,7 @@ use Rattle.floating.specs.Round.{rounded}
 use Rattle.floating.specs.Delivered.{delivered}
 use Rattle.element.specs.Receives.{resultOf}
 use Rattle.machine.specs.Kind.{kindOf}
-use Rattle.machine.specs.Run.{begun, gathered, ended, finished}
+use Rattle.machine.specs.Run.{gathered, ended}
 use Rattle.machine.specs.Step.{operated, received, notes, written, worked, elementStep}
 use Rattle.machine.specs.Iota.{matching, turned, walked, iotaStep}
 use Rattle.machine.specs.Instruction.{stepOf, stepsBelow, wholeOf, instructionOf}
@@ -27,9 +27,9 @@ use Rattle.memory.specs.Address.{testOf, testStep}
 use Rattle.memory.specs.Move.{loadStep, movedOf}
 use Rattle.execute.specs.Execute.{Outcome, outcome, accepted, executedOf}
 use Rattle.queue.specs.Queue.{Queue, atPosition, positions, acceptance, instructionAt, straight}
-use Rattle.queue.specs.Order.{has, each, run, ready, ok, walk, check}
-use Rattle.queue.specs.Touch.{isStep, passing, stepsOf, act, below, reads, writes, meet, conflict, mustFollow}
-use Rattle.queue.specs.Run.{ranThrough, verdictOf, orderedRun, orderRefused}
+use Rattle.queue.specs.Order.{has, each, run, ready, ok, checkFrom, check}
+use Rattle.queue.specs.Touch.{isStep, passing, stepsOf, act, below, reads, writes, meet, conflict, mustPrecede}
+use Rattle.queue.specs.Run.{ranThrough, verdictOf, ranBy, walkedRun, orderedRun}
 use Rattle.queue.specs.Run as byList
 
 -- each starts with VEN 1 and all that is not named zero
@@ -170,14 +170,14 @@ abbrev holding-12 : ℕ → ℕ → ℕ → ℕ → State
 holding-12 a b c d = state (set (set (set (set (set (set zeros 64 a) 65 b) 192 c) 193 d) 256 3) 257 4) (control 2 0 1)
 
 pub example-12 : orderedRun queue-12 in-turn (holding-12 1 2 0 0) ≡ byList.outcome (done 0) (holding-12 3 4 1 2)
-unfolding orderedRun acceptance positions atPosition verdictOf check walk ok ready each has mustFollow conflict meet reads writes below stepsOf passing isStep instructionAt ranThrough straight wholeOf stepsBelow stepOf elementStep operated worked received resultOf written gathered ended notes inRange opcodeOf refused controlWordOf decodedOf kindOf sumOf differenceOf productOf signed low32 overflows
+unfolding orderedRun acceptance positions atPosition verdictOf check checkFrom ok ready each has mustPrecede conflict meet reads writes below stepsOf passing isStep instructionAt ranThrough straight wholeOf stepsBelow stepOf elementStep operated worked received resultOf written gathered ended notes inRange opcodeOf refused controlWordOf decodedOf kindOf sumOf differenceOf productOf signed low32 overflows
 example-12 = refl
 
--- the list walked one entry at a time ends there too
-pub example-12-steps : finished (run (act queue-12) in-turn (begun (holding-12 1 2 0 0))) ≡ holding-12 3 4 1 2
-unfolding run act instructionAt stepOf elementStep operated worked received resultOf written gathered ended notes opcodeOf refused controlWordOf decodedOf kindOf sumOf differenceOf productOf signed low32 overflows
-example-12-steps = refl
+-- and so it does walked one entry at a time
+pub example-12-walked : walkedRun queue-12 in-turn (holding-12 1 2 0 0) ≡ byList.outcome (done 0) (holding-12 3 4 1 2)
+unfolding walkedRun acceptance positions atPosition verdictOf check checkFrom ok ready each has mustPrecede conflict meet reads writes below stepsOf passing isStep instructionAt ranBy run act stepOf elementStep operated worked received resultOf written gathered ended notes inRange opcodeOf refused controlWordOf decodedOf kindOf sumOf differenceOf productOf signed low32 overflows
+example-12-walked = refl
 
 pub example-12-refused : orderedRun queue-12 (64 ∷ 0 ∷ 1 ∷ 65 ∷ []) (holding-12 1 2 0 0) ≡ byList.outcome (orderRefused 0) (holding-12 1 2 0 0)
-unfolding orderedRun acceptance positions atPosition verdictOf check walk ok ready each has mustFollow conflict meet reads writes below stepsOf passing isStep instructionAt inRange opcodeOf refused controlWordOf decodedOf kindOf
+unfolding orderedRun acceptance positions atPosition verdictOf check checkFrom ok ready each has mustPrecede conflict meet reads writes below stepsOf passing isStep instructionAt inRange opcodeOf refused controlWordOf decodedOf kindOf
 example-12-refused = refl

@@ -87,7 +87,7 @@ wrote l e = record { elements = l; next = e }
 unfoldable pub iotaTurn : ℕ → ℕ → ℕ → Written → Written
 iotaTurn stride vc i s = wrote (put vc (s .next) (i * stride % 2 ^ 32) (s .elements)) (s .next + 1)
 
--- ---- an instruction, or some of its steps
+-- ---- an instruction, or one step of it
 -- the control record after what was done
 abbrev pub effected : Effect → Progress → Progress
 effected e p = gathered (e .notes) (progress (withVcr (withVmr (p .control) (e .vmr)) (e .vcr)) (p .recorded))

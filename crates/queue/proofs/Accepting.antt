@@ -10,7 +10,7 @@ use lib.Dec.{leb, eqb}
 use lib.ListN.{length, getD}
 use Rattle.numbers.specs.Choice.{pick}
 use Rattle.state.specs.declared.Control.{Control}
-use Rattle.state.specs.Answer.{Answer, done, disabled, outOfRange}
+use Rattle.state.specs.Answer.{Answer, done, disabled, outOfRange, queueRefused}
 use Rattle.state.specs.State.{inRange, enabled}
 use Rattle.opcodes.specs.Decoding.{controlWordAnswer}
 use Rattle.opcodes.specs.declared.Work.{Work}
@@ -24,7 +24,7 @@ use Rattle.opcodes.specs.ControlWord.{controlWordOf}
 use Rattle.opcodes.specs.Decoding.{decodedWord, decodedWith, decodedOf, LookedUp, ControlWordRead}
 use Rattle.queue.specs.declared.Reply.{Reply}
 use Rattle.queue.specs.declared.Reply.the-variants as reply
-use Rattle.queue.specs.Queue.{standIn, instructionFrom, Queue, size, instructionOr, wellFormed, ofOpcode, atPosition, fine, positions, acceptance, queueRefused}
+use Rattle.queue.specs.Queue.{standIn, instructionFrom, Queue, size, instructionOr, wellFormed, ofOpcode, atPosition, fine, positions, acceptance}
 use Rattle.queue.specs.Reply.{replyAnswer}
 use Rattle.queue.specs.Tables.{standing}
 

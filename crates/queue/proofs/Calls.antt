@@ -9,21 +9,20 @@ use lib.ListN.{length, getD}
 use lib.Seq.{take-length}
 use Rattle.numbers.specs.Choice.{pick}
 use Rattle.state.specs.declared.Control.{Control}
-use Rattle.state.specs.Answer.{Answer, done, disabled, outOfRange}
+use Rattle.state.specs.Answer.{Answer, done, disabled, outOfRange, queueRefused, orderRefused}
 use Rattle.state.specs.State.{state, inRange, enabled, lengthInRange, vaerInRange, vpsrInRange}
 use Rattle.machine.specs.declared.Progress.{Progress}
 use Rattle.machine.specs.Run.{run, progress, ended, finished}
 use Rattle.queue.specs.declared.Reply.{Reply}
-use Rattle.queue.specs.Queue.{Queue, size, wellFormed, fine, positions, acceptance, queueRefused, straight, instructionAt}
+use Rattle.queue.specs.Queue.{Queue, size, wellFormed, fine, positions, acceptance, straight, instructionAt}
 use Rattle.queue.specs.Reply.{replyAnswer}
-use Rattle.queue.specs.Run.{outcome, orderRefused, ranThrough, queueRun, verdictOf, byVerdict, orderedRun}
+use Rattle.queue.specs.Run.{outcome, ranThrough, queueRun, verdictOf, byVerdict, orderedRun}
 use Rattle.queue.specs.Order.{Mem, Proper, run as walkOf}
-use Rattle.queue.specs.Touch.{position, stepsOf, mustFollow, act}
+use Rattle.queue.specs.Touch.{position, stepsOf, mustPrecede, act}
 use Rattle.queue.specs.Tables.{Below, decodedAt, actBy, throughBy, EndsAlike, standing}
 use Rattle.queue.specs.declared.Verdict.{Verdict}
 use Rattle.queue.specs.declared.Verdict.the-variants as verdict
 use Rattle.opcodes.specs.declared.Instruction.{Instruction}
-use Rattle.queue.proofs.Ignores.{Ignores}
 use Rattle.queue.proofs.Meaning.{place}
 use Rattle.queue.proofs.Claim.{permitted-proper, permitted-straight}
 use Rattle.queue.proofs.Steps.{step-of, step-position}
@@ -114,7 +113,7 @@ module _ (q : Queue) (l : List ℕ) (c : Control) (r : Reply) (asked : replyAnsw
       allowed : verdictOf q (c .vlr) list ≡ verdict.Permitted
       allowed = sym e ∙ permitted
 
-      proper : Proper (mustFollow q (c .vlr)) (stepsOf q (c .vlr)) list
+      proper : Proper (mustPrecede q (c .vlr)) (stepsOf q (c .vlr)) list
       proper = permitted-proper q (c .vlr) list .0 allowed
 
       pub entry-position : (i : ℕ) → i < length list → position (getD list i 0) < size q
@@ -123,26 +122,19 @@ module _ (q : Queue) (l : List ℕ) (c : Control) (r : Reply) (asked : replyAnsw
       entry-of : (x : ℕ) → Mem x list → position x < size q
       entry-of x m = let w = place x list (length list) (rw take-length m) in subst (λ (y : ℕ). position y < size q) (w .3) (entry-position (w .0) (w .1))
 
-      pub ends-alike : Ignores → EndsAlike program (q .scalars) list (c .vlr)
-      ends-alike ig = record {
+      pub ends-alike : EndsAlike program (q .scalars) list (c .vlr)
+      ends-alike = record {
         same = λ s v.
             ap (λ (n : ℕ). throughBy program (q .scalars) n s) (reply-accepted f .lengths .scalars)
             ∙ same-through q program same (size q) (omega arith) s
-            ∙ sym (permitted-straight ig q s (rw v (reply-accepted f .short)) list (rw v allowed))
+            ∙ sym (permitted-straight q s (rw v (reply-accepted f .short)) list (rw v allowed))
             ∙ sym (run-same (actBy program (q .scalars)) (act q) list (λ x m z. same-acts q program same x (entry-of x m) z) s);
       }
 
-      pub order-done : Ignores → (l′ : List ℕ) (p p′ : Progress) (c′ : Control) → p ≡ progress c false → c′ ≡ ended p′
+      pub order-done : (l′ : List ℕ) (p p′ : Progress) (c′ : Control) → p ≡ progress c false → c′ ≡ ended p′
           → run l′ p′ ≡ walkOf (actBy program (q .scalars)) list (run l p)
           → outcome (done 0) (state l′ c′) ≡ orderedRun q list (state l c)
-      unfolding ranThrough
-      order-done ig l′ p p′ c′ starts ends w =
-          ap (outcome (done 0))
-          (ap (state l′) ends
-          ∙ ap finished
-          (w
-          ∙ ap (λ (b : Progress). walkOf (actBy program (q .scalars)) list (run l b)) starts
-          ∙ run-same (actBy program (q .scalars)) (act q) list (λ x m s. same-acts q program same x (entry-of x m) s) (run l (progress c false))
-          ∙ permitted-straight ig q (run l (progress c false)) (reply-accepted f .short) list allowed))
+      order-done l′ p p′ c′ starts ends w =
+          ap (outcome (done 0)) (through f program same l′ p p′ c′ starts ends (w ∙ sym (ends-alike .same (run l p) (ap (λ (b : Progress). b .control .vlr) starts))))
           ∙ sym (ap (byVerdict (state l c) (ranThrough q (state l c))) allowed)
           ∙ ordered

@@ -11,7 +11,7 @@ use lib.Seq.{drop-cons}
 use Rattle.numbers.specs.Choice.{pick}
 use Rattle.queue.specs.declared.Verdict.{Verdict}
 use Rattle.queue.specs.declared.Verdict.the-variants.{Permitted, Refused}
-use Rattle.queue.specs.Order.{Mem, has, each, ready, ok, walk, check}
+use Rattle.queue.specs.Order.{Mem, has, each, ready, ok, checkFrom, check}
 use Rattle.queue.proofs.Tests.{has→mem, T-true}
 use Rattle.queue.proofs.SameCheck.{each-same}
 
@@ -28,7 +28,7 @@ module _ (before : ℕ → ℕ → Bool) (steps : List ℕ) where
   pub record CheckInv (list : List ℕ) (mark : ℕ → Bool) (i : ℕ) : Type 0 where
     pub inside : i ≤ length list
     pub marks : (y : ℕ) → Mem y steps → mark y ≡ has y (past list i)
-    pub same : check before steps list ≡ walk before steps (past list i) i (drop i list)
+    pub same : check before steps list ≡ checkFrom before steps (past list i) i (drop i list)
 
   pub check-start : (list : List ℕ) (mark : ℕ → Bool) → ((y : ℕ) → Mem y steps → mark y ≡ false) → CheckInv list mark 0
   unfolding past has check
@@ -48,14 +48,14 @@ module _ (before : ℕ → ℕ → Bool) (steps : List ℕ) where
             ap₂ (λ (m r : Bool). not m && r) (inv .marks x (has→mem x steps (T-true _ e)))
             (each-same _ _ steps (λ a m. ap (λ (b : Bool). not (before a x) || b) (inv .marks a m)))
 
-    -- the walk at an entry
+    -- the check at an entry
     abbrev next : Verdict
-    next = walk before steps (getD list i 0 ∷ past list i) (suc i) (drop (suc i) list)
+    next = checkFrom before steps (getD list i 0 ∷ past list i) (suc i) (drop (suc i) list)
 
     entry : i < length list → check before steps list ≡ pick (mayBy mark (getD list i 0)) next (Refused i)
-    unfolding walk
+    unfolding checkFrom
     entry h =
-        inv .same ∙ ap (walk before steps (past list i) i) (drop-cons list i 0 h)
+        inv .same ∙ ap (checkFrom before steps (past list i) i) (drop-cons list i 0 h)
         ∙ ap (λ (b : Bool). pick b next (Refused i)) (sym (may-ok (getD list i 0)))
 
     pub check-stop : i < length list → mayBy mark (getD list i 0) ≡ false → Refused i ≡ check before steps list
@@ -71,9 +71,9 @@ module _ (before : ℕ → ℕ → Bool) (steps : List ℕ) where
       same = entry h ∙ ap (λ (b : Bool). pick b next (Refused i)) e;
     })
 
-    -- the walk at the end
+    -- the check at the end
     pub check-end : length list ≤ i → check before steps list ≡ pick (each mark steps) Permitted (Refused i)
-    unfolding walk
+    unfolding checkFrom
     check-end h =
-        inv .same ∙ ap (walk before steps (past list i) i) (drop-of-length-le list h)
+        inv .same ∙ ap (checkFrom before steps (past list i) i) (drop-of-length-le list h)
         ∙ ap (λ (b : Bool). pick b Permitted (Refused i)) (sym (each-same _ _ steps (inv .marks)))

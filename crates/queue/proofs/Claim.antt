@@ -18,7 +18,7 @@ use Rattle.machine.specs.Instruction.{stepOf, stepCount}
 use Rattle.queue.specs.declared.Verdict.the-variants.{Permitted}
 use Rattle.queue.specs.Queue.{Queue, size, instructionAt, scalarAt, straight}
 use Rattle.queue.specs.Order.{Mem, run, Right, Proper}
-use Rattle.queue.specs.Touch.{position, element, isStep, stepsOf, act, elementReads, writtenPlace, iotaReads, iotaWrites, reads, writes, conflict, mustFollow}
+use Rattle.queue.specs.Touch.{position, element, isStep, stepsOf, act, elementReads, writtenPlace, iotaReads, iotaWrites, reads, writes, conflict, mustPrecede}
 use Rattle.queue.specs.Binds.{binds, bound}
 use Rattle.queue.specs.Run.{verdictOf}
 use Rattle.queue.proofs.Tests.{T-and}
@@ -27,35 +27,34 @@ use Rattle.queue.proofs.Binding.{Registers, plain-count}
 use Rattle.queue.proofs.Steps.{registers-at, step-of, step-element, steps-rise, follows-lower, steps-conflict}
 use Rattle.queue.proofs.Straight.{steps-straight}
 use Rattle.queue.proofs.Commute.{HasVlr, Does, clear}
-use Rattle.queue.proofs.Ignores.{Ignores}
 use Rattle.queue.proofs.ElementDoes.{element-does}
 use Rattle.queue.proofs.IotaDoes.{iota-does}
 
 -- ---- what the check's answer means
 
 -- A LIST IS PERMITTED exactly where it has every step once and nothing else, and no two that must follow one another in the wrong order
-pub permitted-proper : (q : Queue) (vlr : ℕ) (l : List ℕ) → (verdictOf q vlr l ≡ Permitted) ↔ Proper (mustFollow q vlr) (stepsOf q vlr) l
+pub permitted-proper : (q : Queue) (vlr : ℕ) (l : List ℕ) → (verdictOf q vlr l ≡ Permitted) ↔ Proper (mustPrecede q vlr) (stepsOf q vlr) l
 unfolding verdictOf
-permitted-proper q vlr l = permitted-iff (mustFollow q vlr) (stepsOf q vlr) l
+permitted-proper q vlr l = permitted-iff (mustPrecede q vlr) (stepsOf q vlr) l
 
 -- THE VERDICT IS RIGHT: it names the first bad entry, or the list's length where steps are missing
-pub verdict-right : (q : Queue) (vlr : ℕ) (l : List ℕ) → Right (mustFollow q vlr) (stepsOf q vlr) l (verdictOf q vlr l)
+pub verdict-right : (q : Queue) (vlr : ℕ) (l : List ℕ) → Right (mustPrecede q vlr) (stepsOf q vlr) l (verdictOf q vlr l)
 unfolding verdictOf
-verdict-right q vlr l = check-right (mustFollow q vlr) (stepsOf q vlr) l
+verdict-right q vlr l = check-right (mustPrecede q vlr) (stepsOf q vlr) l
 
 -- ---- a step of any instruction
 
-pub step-does : (ig : Ignores) (n : ℕ) → n ≤ 64 → (ins : Instruction) (scalar i : ℕ) → Registers ins → i < stepCount ins n
+pub step-does : (n : ℕ) → n ≤ 64 → (ins : Instruction) (scalar i : ℕ) → Registers ins → i < stepCount ins n
     → Does n (stepOf ins scalar i) (reads ins n i) (writes ins n i)
 unfolding stepOf reads writes
-step-does ig n few ins scalar i regs h = go (isIota (kindOf (ins .work))) refl
+step-does n few ins scalar i regs h = go (isIota (kindOf (ins .work))) refl
   where
     go : (t : Bool) → isIota (kindOf (ins .work)) ≡ t
         → Does n (λ (r : Run). pick (isIota (kindOf (ins .work))) (iotaStep ins scalar r) (elementStep ins scalar i r))
         (pick (isIota (kindOf (ins .work))) (iotaReads n) (elementReads ins i))
         (pick (isIota (kindOf (ins .work))) (iotaWrites ins n) (writtenPlace ins i ∷ []))
     go true e = rw e (iota-does n few ins scalar (regs .vc))
-    go false e = let k = plain-count ins n i e h in rw e (element-does ig n ins scalar i regs (omega arith))
+    go false e = let k = plain-count ins n i e h in rw e (element-does n ins scalar i regs (omega arith))
 
 -- ---- two steps of a queue
 
@@ -72,12 +71,12 @@ apart ins vlr i j h k other = go (isIota (kindOf (ins .work))) refl
     go true e = absurd (other (iota-only (isIota (kindOf (ins .work))) vlr i j e h k))
     go false e = rw (e, ne-eqb i j other)
 
-module _ (ig : Ignores) (q : Queue) (n : ℕ) (few : n ≤ 64) where
+module _ (q : Queue) (n : ℕ) (few : n ≤ 64) where
   act-does : (x : ℕ) → T (isStep q n x)
       → Does n (act q x) (reads (instructionAt q (position x)) n (element x)) (writes (instructionAt q (position x)) n (element x))
   unfolding act
   act-does x s =
-      step-does ig n few (instructionAt q (position x)) (scalarAt q (position x)) (element x) (registers-at q (position x)) (step-element q n x s)
+      step-does n few (instructionAt q (position x)) (scalarAt q (position x)) (element x) (registers-at q (position x)) (step-element q n x s)
 
   pub act-keeps-vlr : (x : ℕ) → T (isStep q n x) → (r : Run) → HasVlr n r → HasVlr n (act q x r)
   act-keeps-vlr x s r h = act-does x s .still r h .vlr ∙ h
@@ -88,11 +87,11 @@ module _ (ig : Ignores) (q : Queue) (n : ℕ) (few : n ≤ 64) where
   run-keeps-vlr (x ∷ l) s r h = run-keeps-vlr l (λ y m. s y (inr m)) (act q x r) (act-keeps-vlr x (s x (inl refl)) r h)
 
   -- steps of different instructions that need not follow one another do not conflict
-  no-conflict : (x y : ℕ) → position x < position y → (T (mustFollow q n x y) → ⊥)
+  no-conflict : (x y : ℕ) → position x < position y → (T (mustPrecede q n x y) → ⊥)
       → T (conflict (reads (instructionAt q (position x)) n (element x)) (writes (instructionAt q (position x)) n (element x))
       (reads (instructionAt q (position y)) n (element y)) (writes (instructionAt q (position y)) n (element y)))
       → ⊥
-  unfolding mustFollow
+  unfolding mustPrecede
   no-conflict x y h free t = free (T-and (ltb (position x) (position y)) _ (lt→ltb (position x) (position y) h) t)
 
   -- nor do different steps of one instruction
@@ -117,7 +116,7 @@ module _ (ig : Ignores) (q : Queue) (n : ℕ) (few : n ≤ 64) where
   acts-clear x y sx sy = clear n (act q x) (act q y) _ _ _ _ (act-does x sx) (act-does y sy)
 
   -- STEPS COMMUTE unless one must follow the other
-  pub acts-commute : (x y : ℕ) → T (isStep q n x) → T (isStep q n y) → (T (mustFollow q n x y) → ⊥) → (T (mustFollow q n y x) → ⊥)
+  pub acts-commute : (x y : ℕ) → T (isStep q n x) → T (isStep q n y) → (T (mustPrecede q n x y) → ⊥) → (T (mustPrecede q n y x) → ⊥)
       → (r : Run) → HasVlr n r → act q x (act q y r) ≡ act q y (act q x r)
   acts-commute x y sx sy xy yx r h = go (decLt (position x) (position y)) (decLt (position y) (position x)) (ℕ-discrete x y)
     where
@@ -131,16 +130,16 @@ module _ (ig : Ignores) (q : Queue) (n : ℕ) (few : n ≤ 64) where
   pub permitted-same : (l : List ℕ) → verdictOf q n l ≡ Permitted → (r : Run) → HasVlr n r → run (act q) l r ≡ run (act q) (stepsOf q n) r
   unfolding verdictOf
   permitted-same l p =
-      law (mustFollow q n) (stepsOf q n) (act q) (HasVlr n)
+      law (mustPrecede q n) (stepsOf q n) (act q) (HasVlr n)
       (λ x m r h. act-keeps-vlr x (step-of q n x m) r h)
       (λ x y mx my a b r h. acts-commute x y (step-of q n x mx) (step-of q n y my) a b r h)
-      l p (own-order (mustFollow q n) (stepsOf q n) (steps-rise q n) (follows-lower q n))
+      l p (own-order (mustPrecede q n) (stepsOf q n) (steps-rise q n) (follows-lower q n))
 
   own-straight : (r : Run) → HasVlr n r → run (act q) (stepsOf q n) r ≡ straight q (size q) r
   own-straight r h = steps-straight q n few r (λ l s. run-keeps-vlr l s r h)
 
 -- DEMAND 3: every permitted list of a queue's steps ends in the same whole state as the queue run straight through
-pub permitted-straight : Ignores → (q : Queue) (r : Run) → r .progress .control .vlr ≤ 64
+pub permitted-straight : (q : Queue) (r : Run) → r .progress .control .vlr ≤ 64
     → (l : List ℕ) → verdictOf q (r .progress .control .vlr) l ≡ Permitted → run (act q) l r ≡ straight q (size q) r
-permitted-straight ig q r few l p =
-    permitted-same ig q (r .progress .control .vlr) few l p r refl ∙ own-straight ig q (r .progress .control .vlr) few r refl
+permitted-straight q r few l p =
+    permitted-same q (r .progress .control .vlr) few l p r refl ∙ own-straight q (r .progress .control .vlr) few r refl

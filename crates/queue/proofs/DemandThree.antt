@@ -1,4 +1,4 @@
--- DEMAND 3, with no premise left open: every permitted list of a queue's steps, walked one entry at a time, ends where the queue ends straight through.
+-- DEMAND 3: every permitted list of a queue's steps, walked one entry at a time, ends where the queue ends straight through.
 -- Assumes nothing.
 use mathlib.Core.Path.{_≡_, refl, ap, _∙_, sym}
 use mathlib.Core.Bool.{Bool, true, false}
@@ -15,11 +15,10 @@ use Rattle.queue.specs.Touch.{act}
 use Rattle.queue.specs.Run.{Outcome, outcome, verdictOf, byVerdict, ranThrough, ranBy, walkedRun, orderedRun}
 use Rattle.queue.proofs.Claim.{permitted-straight}
 use Rattle.queue.proofs.Calls.{fine-accepted}
-use Rattle.queue.proofs.Ignoring.{ignores}
 
 pub demand-three : (q : Queue) (r : Run) → r .progress .control .vlr ≤ 64 → (l : List ℕ) → verdictOf q (r .progress .control .vlr) l ≡ Permitted
     → run (act q) l r ≡ straight q (size q) r
-demand-three = permitted-straight ignores
+demand-three = permitted-straight
 
 -- THE CALL BY A LIST: for every queue, list and state, walked entry by entry it gives and leaves what it gives and leaves with the straight run's state
 pub walked-straight : (q : Queue) (list : List ℕ) (s : State) → walkedRun q list s ≡ orderedRun q list s

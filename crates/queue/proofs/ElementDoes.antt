@@ -27,7 +27,7 @@ use Rattle.queue.proofs.Places.{mem-append-l, mem-append-r}
 use Rattle.queue.proofs.Binding.{Registers}
 use Rattle.queue.proofs.Contents.{get, get-element, get-mask, marked, stored, marked-here, marked-keeps, marked-still, stored-same, stored-keeps, stored-still, recorded-keeps, recorded-still, Still}
 use Rattle.queue.proofs.Commute.{HasVlr, Agree, Does}
-use Rattle.queue.proofs.Ignores.{Ignores, ignores-first}
+use Rattle.queue.proofs.Ignoring.{ignores-first, ignores-own, ignores-bit}
 
 mem-when : (t : Bool) (p : ℕ) → t ≡ true → Mem p (when t p)
 mem-when true p e = inl refl
@@ -51,7 +51,7 @@ module _ (ins : Instruction) (i : ℕ) where
       (when (ins .moe || isMerge (kindOf (ins .work))) (maskPlace i))
       (mem-when (ins .moe || isMerge (kindOf (ins .work))) (maskPlace i) e)
 
-module _ (ig : Ignores) (n : ℕ) (ins : Instruction) (scalar i : ℕ) (regs : Registers ins) (small : i < 64) where
+module _ (n : ℕ) (ins : Instruction) (scalar i : ℕ) (regs : Registers ins) (small : i < 64) where
   -- ---- what it makes of what it reads
   module _ (r r′ : Run) (h : HasVlr n r) (h′ : HasVlr n r′) (agree : Agree (elementReads ins i) (writtenPlace ins i ∷ []) r r′) where
     same-element : (x : ℕ) → x < 16 → Mem (elementPlace x i) (elementReads ins i) ⊎ Mem (elementPlace x i) (writtenPlace ins i ∷ []) → at (r .elements) x i ≡ at (r′ .elements) x i
@@ -88,7 +88,7 @@ module _ (ig : Ignores) (n : ℕ) (ins : Instruction) (scalar i : ℕ) (regs : R
         go true e =
             ap (λ (x : Bool). resultOf (ins .work) (ins .exc) (fieldOf ins) x a b c)
             (same-matches (ap (λ (y : Bool). ins .moe || y) e ∙ or-true (ins .moe)))
-        go false e = ig .match (ins .work) (λ t. subst T e t) (ins .exc) (fieldOf ins) _ _ a b c
+        go false e = ignores-bit (ins .work) (λ t. subst T e t) (ins .exc) (fieldOf ins) _ _ a b c
 
     by-first : (m : Bool) (b c : ℕ)
         → resultOf (ins .work) (ins .exc) (fieldOf ins) m (first ins scalar (r .elements) i) b c
@@ -100,7 +100,7 @@ module _ (ig : Ignores) (n : ℕ) (ins : Instruction) (scalar i : ℕ) (regs : R
             → resultOf (ins .work) (ins .exc) (fieldOf ins) m (pick s scalar (at (r .elements) (ins .va .0) i)) b c
             ≡ resultOf (ins .work) (ins .exc) (fieldOf ins) m (pick s scalar (at (r′ .elements) (ins .va .0) i)) b c
         go true t f g = refl
-        go false true f g = ignores-first ig (ins .work) (ins .exc) (fieldOf ins) m _ _ b c (f tt)
+        go false true f g = ignores-first (ins .work) (ins .exc) (fieldOf ins) m _ _ b c (f tt)
         go false false f g = ap (λ (x : ℕ). resultOf (ins .work) (ins .exc) (fieldOf ins) m x b c) (g refl)
 
     by-own : (m : Bool) (a b : ℕ)
@@ -111,7 +111,7 @@ module _ (ig : Ignores) (n : ℕ) (ins : Instruction) (scalar i : ℕ) (regs : R
         go : (t : Bool) → isCompare (kindOf (ins .work)) ≡ t
             → resultOf (ins .work) (ins .exc) (fieldOf ins) m a b (at (r .elements) (ins .vc .0) i)
             ≡ resultOf (ins .work) (ins .exc) (fieldOf ins) m a b (at (r′ .elements) (ins .vc .0) i)
-        go true e = ig .relation (ins .work) (T-true _ e) (ins .exc) (fieldOf ins) m a b _ _
+        go true e = ignores-own (ins .work) (T-true _ e) (ins .exc) (fieldOf ins) m a b _ _
         go false e =
             ap (resultOf (ins .work) (ins .exc) (fieldOf ins) m a b)
             (same-element (ins .vc .0) (regs .vc) (inr (inl (sym (ap (λ (t : Bool). pick t (maskPlace i) (elementPlace (ins .vc .0) i)) e)))))

@@ -1,62 +1,74 @@
--- An element's result ignores what its step is not said to read. Assumes nothing.
-use mathlib.Core.Path.{_≡_, refl}
-use mathlib.Core.Bool.{Bool}
+-- What an element's result does not depend on, though it is handed over: convert has no Va (its field is the conversion), compare reads no Vc (its field
+-- is the relation), and only merge goes by the mask bit itself. So a step that does not read these need not wait for who writes them. Assumes nothing.
+use mathlib.Core.Path.{_≡_, refl, sym, ap, _∙_}
+use mathlib.Core.Bool.{Bool, false}
 use Prim.Native.Nat.{ℕ}
-use lib.Dec.{T}
+use lib.Dec.{T, eqb→eq}
 use Rattle.opcodes.specs.declared.Work.{Work}
 use Rattle.opcodes.specs.declared.Work.the-variants.{AddLongword, SubtractLongword, MultiplyLongword, CompareLongword, BitSet, ExclusiveOr, BitClear, ShiftRight, ShiftLeft, AddF, SubtractF, MultiplyF, CompareF, Convert, Iota, Merge, LoadLongword, LoadQuadword, StoreLongword, StoreQuadword}
+use Rattle.opcodes.specs.declared.Opcode.the-variants.{Accepted}
+use Rattle.opcodes.specs.WorkNumbers.{workNumber, numbered}
+use Rattle.opcodes.proofs.Works.{numbered-work}
 use Rattle.element.specs.Receives.{resultOf}
 use Rattle.machine.specs.Kind.{kindOf, isCompare, isMerge}
-use Rattle.queue.proofs.Ignores.{Ignores}
+use Rattle.queue.specs.Touch.{isConvert}
 
-relation : (w : Work) → T (isCompare (kindOf w)) → (exc : Bool) (field : ℕ) (m : Bool) (a b c c′ : ℕ)
+-- a work is convert where its number is
+convert-is : (w : Work) → T (isConvert w) → w ≡ Convert
+convert-is w t =
+    let e : Accepted w false ≡ Accepted Convert false =
+    sym (numbered-work w false) ∙ ap (λ (n : ℕ). numbered n false) (eqb→eq (workNumber w) (workNumber Convert) t) ∙ numbered-work Convert false in
+    cc
+
+pub ignores-first : (w : Work) (exc : Bool) (field : ℕ) (m : Bool) (a a′ b c : ℕ) → T (isConvert w)
+    → resultOf w exc field m a b c ≡ resultOf w exc field m a′ b c
+unfolding resultOf
+ignores-first w exc field m a a′ b c t = ap (λ (v : Work). resultOf v exc field m a b c) (convert-is w t) ∙ sym (ap (λ (v : Work). resultOf v exc field m a′ b c) (convert-is w t))
+
+pub ignores-own : (w : Work) → T (isCompare (kindOf w)) → (exc : Bool) (field : ℕ) (m : Bool) (a b c c′ : ℕ)
     → resultOf w exc field m a b c ≡ resultOf w exc field m a b c′
 unfolding kindOf resultOf
-relation AddLongword t exc field m a b c c′ = absurd t
-relation SubtractLongword t exc field m a b c c′ = absurd t
-relation MultiplyLongword t exc field m a b c c′ = absurd t
-relation CompareLongword t exc field m a b c c′ = refl
-relation BitSet t exc field m a b c c′ = absurd t
-relation ExclusiveOr t exc field m a b c c′ = absurd t
-relation BitClear t exc field m a b c c′ = absurd t
-relation ShiftRight t exc field m a b c c′ = absurd t
-relation ShiftLeft t exc field m a b c c′ = absurd t
-relation AddF t exc field m a b c c′ = absurd t
-relation SubtractF t exc field m a b c c′ = absurd t
-relation MultiplyF t exc field m a b c c′ = absurd t
-relation CompareF t exc field m a b c c′ = refl
-relation Convert t exc field m a b c c′ = absurd t
-relation Iota t exc field m a b c c′ = absurd t
-relation Merge t exc field m a b c c′ = absurd t
-relation LoadLongword t exc field m a b c c′ = absurd t
-relation LoadQuadword t exc field m a b c c′ = absurd t
-relation StoreLongword t exc field m a b c c′ = absurd t
-relation StoreQuadword t exc field m a b c c′ = absurd t
+ignores-own AddLongword t exc field m a b c c′ = absurd t
+ignores-own SubtractLongword t exc field m a b c c′ = absurd t
+ignores-own MultiplyLongword t exc field m a b c c′ = absurd t
+ignores-own CompareLongword t exc field m a b c c′ = refl
+ignores-own BitSet t exc field m a b c c′ = absurd t
+ignores-own ExclusiveOr t exc field m a b c c′ = absurd t
+ignores-own BitClear t exc field m a b c c′ = absurd t
+ignores-own ShiftRight t exc field m a b c c′ = absurd t
+ignores-own ShiftLeft t exc field m a b c c′ = absurd t
+ignores-own AddF t exc field m a b c c′ = absurd t
+ignores-own SubtractF t exc field m a b c c′ = absurd t
+ignores-own MultiplyF t exc field m a b c c′ = absurd t
+ignores-own CompareF t exc field m a b c c′ = refl
+ignores-own Convert t exc field m a b c c′ = absurd t
+ignores-own Iota t exc field m a b c c′ = absurd t
+ignores-own Merge t exc field m a b c c′ = absurd t
+ignores-own LoadLongword t exc field m a b c c′ = absurd t
+ignores-own LoadQuadword t exc field m a b c c′ = absurd t
+ignores-own StoreLongword t exc field m a b c c′ = absurd t
+ignores-own StoreQuadword t exc field m a b c c′ = absurd t
 
-match : (w : Work) → (T (isMerge (kindOf w)) → ⊥) → (exc : Bool) (field : ℕ) (m m′ : Bool) (a b c : ℕ)
+pub ignores-bit : (w : Work) → (T (isMerge (kindOf w)) → ⊥) → (exc : Bool) (field : ℕ) (m m′ : Bool) (a b c : ℕ)
     → resultOf w exc field m a b c ≡ resultOf w exc field m′ a b c
 unfolding kindOf resultOf
-match AddLongword t exc field m m′ a b c = refl
-match SubtractLongword t exc field m m′ a b c = refl
-match MultiplyLongword t exc field m m′ a b c = refl
-match CompareLongword t exc field m m′ a b c = refl
-match BitSet t exc field m m′ a b c = refl
-match ExclusiveOr t exc field m m′ a b c = refl
-match BitClear t exc field m m′ a b c = refl
-match ShiftRight t exc field m m′ a b c = refl
-match ShiftLeft t exc field m m′ a b c = refl
-match AddF t exc field m m′ a b c = refl
-match SubtractF t exc field m m′ a b c = refl
-match MultiplyF t exc field m m′ a b c = refl
-match CompareF t exc field m m′ a b c = refl
-match Convert t exc field m m′ a b c = refl
-match Iota t exc field m m′ a b c = refl
-match Merge t exc field m m′ a b c = absurd (t tt)
-match LoadLongword t exc field m m′ a b c = refl
-match LoadQuadword t exc field m m′ a b c = refl
-match StoreLongword t exc field m m′ a b c = refl
-match StoreQuadword t exc field m m′ a b c = refl
-
-pub ignores : Ignores
-unfolding resultOf
-ignores = record { conversion = λ exc field m a a′ b c. refl; relation = relation; match = match }
+ignores-bit AddLongword t exc field m m′ a b c = refl
+ignores-bit SubtractLongword t exc field m m′ a b c = refl
+ignores-bit MultiplyLongword t exc field m m′ a b c = refl
+ignores-bit CompareLongword t exc field m m′ a b c = refl
+ignores-bit BitSet t exc field m m′ a b c = refl
+ignores-bit ExclusiveOr t exc field m m′ a b c = refl
+ignores-bit BitClear t exc field m m′ a b c = refl
+ignores-bit ShiftRight t exc field m m′ a b c = refl
+ignores-bit ShiftLeft t exc field m m′ a b c = refl
+ignores-bit AddF t exc field m m′ a b c = refl
+ignores-bit SubtractF t exc field m m′ a b c = refl
+ignores-bit MultiplyF t exc field m m′ a b c = refl
+ignores-bit CompareF t exc field m m′ a b c = refl
+ignores-bit Convert t exc field m m′ a b c = refl
+ignores-bit Iota t exc field m m′ a b c = refl
+ignores-bit Merge t exc field m m′ a b c = absurd (t tt)
+ignores-bit LoadLongword t exc field m m′ a b c = refl
+ignores-bit LoadQuadword t exc field m m′ a b c = refl
+ignores-bit StoreLongword t exc field m m′ a b c = refl
+ignores-bit StoreQuadword t exc field m m′ a b c = refl

@@ -1,5 +1,4 @@
--- The law of order lists: every list that the check permits runs to the same state. And what the check's answers mean.
--- Assumes nothing.
+-- The law of order lists: two lists of the same steps, each with dependent ones in the same order, run to the same state. Assumes nothing.
 use mathlib.Core.Path.{_≡_, refl, sym, ap, _∙_, subst}
 use mathlib.Core.Logic.{inl, inr}
 use mathlib.Core.Bool.{Bool}

@@ -9,7 +9,6 @@ pub mod Steps
 pub mod Straight
 pub mod Contents
 pub mod Commute
-pub mod Ignores
 pub mod Ignoring
 pub mod ElementDoes
 pub mod IotaDoes

@@ -11,7 +11,7 @@ use lib.Dec.{T, T-not, not-T}
 use lib.ListN.{length, getD, take}
 use Rattle.queue.specs.declared.Verdict.{Verdict}
 use Rattle.queue.specs.declared.Verdict.the-variants.{Permitted, Refused}
-use Rattle.queue.specs.Order.{Mem, has, each, ready, ok, walk, check, GoodAt, Right, Proper, run}
+use Rattle.queue.specs.Order.{Mem, has, each, ready, ok, checkFrom, check, GoodAt, Right, Proper, run}
 use native.Mathlib.Decide.{decLt}
 use lib.Seq.{take-length}
 use Rattle.queue.proofs.Law.{Nodup, Ord, same-run}
@@ -112,18 +112,18 @@ module _ (before : ℕ → ℕ → Bool) (steps : List ℕ) where
         (λ b. inr (ap suc (b .0), (b .1 .0, b .1 .1, λ m. b .1 .2 (unfront seen l m)))) (w .3),
   )
 
-  walk-right : (l seen : List ℕ) (i : ℕ) → RightFrom seen i l (walk before steps seen i l)
-  unfolding walk
-  walk-right [] seen i =
+  from-right : (l seen : List ℕ) (i : ℕ) → RightFrom seen i l (checkFrom before steps seen i l)
+  unfolding checkFrom
+  from-right [] seen i =
       by-pick (RightFrom seen i []) (each (λ (a : ℕ). has a seen) steps) Permitted (Refused i)
       (λ t. ((λ k h. absurd (not-suc-le-zero h)), λ a m. inl (has→mem a seen (each→ _ steps t a m))))
       (λ f. (0, sym (add-zero i), (λ k h. absurd (not-suc-le-zero h)), inr (refl, miss (each-fails _ steps f))))
     where
       miss : ((a : ℕ) × Mem a steps × (T (has a seen) → ⊥)) → (a : ℕ) × Mem a steps × (Mem a seen ⊎ ⊥ → ⊥)
       miss w = (w .0, w .1, λ m. w .2 (mem→has (w .0) seen (left m)))
-  walk-right (x ∷ l) seen i =
-      by-pick (RightFrom seen i (x ∷ l)) (ok before steps seen x) (walk before steps (x ∷ seen) (suc i) l) (Refused i)
-      (λ t. cons-right seen x l i (ok→good seen x l t) (walk before steps (x ∷ seen) (suc i) l) (walk-right l (x ∷ seen) (suc i)))
+  from-right (x ∷ l) seen i =
+      by-pick (RightFrom seen i (x ∷ l)) (ok before steps seen x) (checkFrom before steps (x ∷ seen) (suc i) l) (Refused i)
+      (λ t. cons-right seen x l i (ok→good seen x l t) (checkFrom before steps (x ∷ seen) (suc i) l) (from-right l (x ∷ seen) (suc i)))
       (λ f. (0, sym (add-zero i), (λ k h. absurd (not-suc-le-zero h)), inl (suc-le-suc zero-le, λ g. f (good→ok seen x l g))))
 
   -- the check's own statement: nothing seen, from position 0
@@ -142,7 +142,7 @@ module _ (before : ℕ → ℕ → Bool) (steps : List ℕ) where
   -- THE CHECK'S ANSWER IS RIGHT
   pub check-right : (l : List ℕ) → Right before steps l (check before steps l)
   unfolding check
-  check-right l = at-right l (walk before steps [] 0 l) (walk-right l [] 0)
+  check-right l = at-right l (checkFrom before steps [] 0 l) (from-right l [] 0)
 
   -- no two answers are right
   clash : (l : List ℕ) (p : ℕ) → Right before steps l Permitted → Right before steps l (Refused p) → ⊥

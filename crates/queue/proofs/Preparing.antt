@@ -9,7 +9,7 @@ use lib.ListN.{length, getD, set, replicate}
 use Rattle.numbers.specs.Choice.{pick}
 use Rattle.numbers.specs.Bits.{bit}
 use Rattle.state.specs.declared.Control.{Control}
-use Rattle.state.specs.Answer.{done}
+use Rattle.state.specs.Answer.{done, orderRefused}
 use Rattle.state.specs.State.{state}
 use Rattle.opcodes.specs.declared.Instruction.{Instruction}
 use Rattle.opcodes.specs.Opcodes.{opcodeOf}
@@ -19,7 +19,7 @@ use Rattle.queue.specs.declared.Reply.{Reply}
 use Rattle.queue.specs.declared.Verdict.{Verdict}
 use Rattle.queue.specs.declared.Verdict.the-variants as verdict
 use Rattle.queue.specs.Queue.{standIn, instructionFrom, Queue, size, ofOpcode, fine, positions, acceptance, instructionAt}
-use Rattle.queue.specs.Run.{outcome, orderRefused, verdictOf, orderedRun}
+use Rattle.queue.specs.Run.{outcome, verdictOf, orderedRun}
 use Rattle.queue.specs.Order.{run as walkOf}
 use Rattle.queue.specs.Touch.{position}
 use Rattle.queue.specs.Reply.{replyAnswer}
@@ -31,7 +31,6 @@ use Rattle.queue.proofs.Through.{at-below}
 use Rattle.queue.proofs.Sets.{built-at}
 use Rattle.queue.proofs.Noting.{Noted, noted-none, noted-more, bound-is}
 use Rattle.queue.proofs.Verdicts.{Tables, bound-earlier, tables-verdict}
-use Rattle.queue.proofs.Ignoring.{ignores}
 use Rattle.queue.proofs.Calls.{Accepted, reply-accepted, through-meets, order-refused, order-stopped, entry-position, ends-alike, order-done}
 
 -- ---- the positions are tested and decoded
@@ -171,10 +170,10 @@ module _ (q : Queue) (l : List ℕ) (c : Control) (r : Reply) (program : List In
                   t .1,
                   (
                     λ i h. rw (ok .lengths .scalars) (entry-position q l c r (accepts .answered) passes list program decoding v right permitted i h),
-                    rw begun (ends-alike q l c r (accepts .answered) passes list program decoding v right permitted ignores),
+                    rw begun (ends-alike q l c r (accepts .answered) passes list program decoding v right permitted),
                   ),
                 ),
               )
 
           pub listed-done : (l′ : List ℕ) (p′ : Progress) (c′ : Control) → c′ ≡ ended p′ → run l′ p′ ≡ walkOf (actBy program (q .scalars)) list (run l p) → outcome (done 0) (state l′ c′) ≡ orderedRun q list (state l c)
-          listed-done l′ p′ c′ = order-done q l c r (accepts .answered) passes list program decoding v right permitted ignores l′ p p′ c′ begun
+          listed-done l′ p′ c′ = order-done q l c r (accepts .answered) passes list program decoding v right permitted l′ p p′ c′ begun

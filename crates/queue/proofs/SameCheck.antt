@@ -9,7 +9,7 @@ use native.Mathlib.Omega.{arith}
 use Rattle.numbers.specs.Choice.{pick}
 use Rattle.queue.specs.declared.Verdict.{Verdict}
 use Rattle.queue.specs.declared.Verdict.the-variants.{Refused}
-use Rattle.queue.specs.Order.{Mem, has, each, ready, ok, walk, check}
+use Rattle.queue.specs.Order.{Mem, has, each, ready, ok, checkFrom, check}
 use Rattle.queue.specs.Touch.{passing}
 use Rattle.queue.proofs.Tests.{T-true, has→mem}
 
@@ -35,11 +35,11 @@ module _ (steps : List ℕ) (before before′ : ℕ → ℕ → Bool) (same : (a
       go true f = ap (λ (b : Bool). not (has x seen) && b) (each-same _ _ steps (λ a m. ap (λ (b : Bool). not b || has a seen) (same a x m (f refl))))
       go false f = refl
 
-  walk-same : (l seen : List ℕ) (i : ℕ) → walk before steps seen i l ≡ walk before′ steps seen i l
-  unfolding walk
-  walk-same [] seen i = refl
-  walk-same (x ∷ l) seen i = ap₂ (λ (t : Bool) (v : Verdict). pick t v (Refused i)) (ok-same seen x) (walk-same l (x ∷ seen) (suc i))
+  from-same : (l seen : List ℕ) (i : ℕ) → checkFrom before steps seen i l ≡ checkFrom before′ steps seen i l
+  unfolding checkFrom
+  from-same [] seen i = refl
+  from-same (x ∷ l) seen i = ap₂ (λ (t : Bool) (v : Verdict). pick t v (Refused i)) (ok-same seen x) (from-same l (x ∷ seen) (suc i))
 
   pub check-same : (l : List ℕ) → check before steps l ≡ check before′ steps l
   unfolding check
-  check-same l = walk-same l [] 0
+  check-same l = from-same l [] 0

@@ -17,7 +17,7 @@ use Rattle.opcodes.proofs.Passed.{decoded-passed}
 use Rattle.machine.specs.Instruction.{stepCount}
 use Rattle.queue.specs.Queue.{standIn, Queue, size, instructionOr, instructionAt}
 use Rattle.queue.specs.Order.{Mem, has}
-use Rattle.queue.specs.Touch.{position, element, isStep, passing, stepsOf, reads, writes, conflict, mustFollow}
+use Rattle.queue.specs.Touch.{position, element, isStep, passing, stepsOf, reads, writes, conflict, mustPrecede}
 use Rattle.queue.specs.Binds.{bound}
 use Rattle.queue.proofs.Tests.{by-pick, and-l, and-r, T-and, has→mem, mem→has}
 use Rattle.queue.proofs.Meaning.{Asc}
@@ -116,8 +116,8 @@ module _ (q : Queue) (vlr : ℕ) where
   steps-rise = rising (isStep q vlr) 0 (size q * 64)
 
   -- a step that must be followed has the lower number
-  pub follows-lower : (x y : ℕ) → T (mustFollow q vlr x y) → x < y
-  unfolding mustFollow
+  pub follows-lower : (x y : ℕ) → T (mustPrecede q vlr x y) → x < y
+  unfolding mustPrecede
   follows-lower x y t = let h = ltb→lt (position x) (position y) (and-l (ltb (position x) (position y)) _ t) in omega arith
 
   module _ (few : vlr ≤ 64) (x y : ℕ) (sx : T (isStep q vlr x)) (sy : T (isStep q vlr y)) where
@@ -130,7 +130,7 @@ module _ (q : Queue) (vlr : ℕ) where
         (registers-at q (position x)) (registers-at q (position y)) few (step-element x sx) (step-element y sy)
 
     -- THE CLOSED FORM of which step must follow which
-    pub must-follow : mustFollow q vlr x y
+    pub must-precede : mustPrecede q vlr x y
         ≡ (ltb (position x) (position y) && bound (instructionAt q (position x)) (element x) (instructionAt q (position y)) (element y))
-    unfolding mustFollow
-    must-follow = ap (λ (t : Bool). ltb (position x) (position y) && t) steps-conflict
+    unfolding mustPrecede
+    must-precede = ap (λ (t : Bool). ltb (position x) (position y) && t) steps-conflict

@@ -42,7 +42,7 @@ module _ (p : ℕ → Bool) where
   passing-last i n = ap (passing p i) (sym (add-one n)) ∙ passing-append i n 1
 
 -- the step of element e of position k, if its number passes the test
-abbrev pub stepIf : Queue → (ℕ → Bool) → ℕ → ℕ → Run → Run
+abbrev stepIf : Queue → (ℕ → Bool) → ℕ → ℕ → Run → Run
 stepIf q p k e r = pick (p (k * 64 + e)) (stepOf (instructionAt q k) (scalarAt q k) e r) r
 
 module _ (q : Queue) (k : ℕ) where
@@ -58,7 +58,7 @@ module _ (q : Queue) (k : ℕ) where
   acts e b r = ap₂ (λ (x y : ℕ). stepOf (instructionAt q x) (scalarAt q x) y r) (at-position e b) (at-element e b)
 
   -- a step of position k is one of its elements below the count
-  pub counted : (vlr e : ℕ) → e < 64 → T (isStep q vlr (k * 64 + e)) → e < stepCount (instructionAt q k) vlr
+  counted : (vlr e : ℕ) → e < 64 → T (isStep q vlr (k * 64 + e)) → e < stepCount (instructionAt q k) vlr
   counted vlr e b t =
       subst (λ (x : ℕ). x < stepCount (instructionAt q k) vlr) (at-element e b)
       (subst (λ (x : ℕ). element (k * 64 + e) < stepCount (instructionAt q x) vlr) (at-position e b) (step-element q vlr (k * 64 + e) t))
@@ -79,7 +79,7 @@ module _ (q : Queue) (k : ℕ) where
         last false s = refl
 
     -- the steps that pass a test, of one position more
-    pub next-position : (r : Run) → run (act q) (passing p 0 (suc k * 64)) r ≡ rising (stepIf q p k) 64 (run (act q) (passing p 0 (k * 64)) r)
+    next-position : (r : Run) → run (act q) (passing p 0 (suc k * 64)) r ≡ rising (stepIf q p k) 64 (run (act q) (passing p 0 (k * 64)) r)
     next-position r =
         ap (λ (l : List ℕ). run (act q) l r)
         (ap (passing p 0) more

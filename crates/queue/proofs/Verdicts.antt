@@ -12,12 +12,12 @@ use Rattle.machine.specs.Kind.{kindOf, isIota}
 use Rattle.machine.specs.Instruction.{stepCount}
 use Rattle.queue.specs.Queue.{Queue, size, instructionAt}
 use Rattle.queue.specs.Order.{Mem, check}
-use Rattle.queue.specs.Touch.{position, element, isStep, stepsOf, mustFollow}
+use Rattle.queue.specs.Touch.{position, element, isStep, stepsOf, mustPrecede}
 use Rattle.queue.specs.Binds.{binds, bound as boundOf}
 use Rattle.queue.specs.Run.{verdictOf}
 use Rattle.queue.specs.Tables.{countBy, isStepBy, stepsBy, followsBy, verdictBy}
 use Rattle.queue.proofs.SameCheck.{passing-same, check-same}
-use Rattle.queue.proofs.Steps.{step-of, step-position, must-follow}
+use Rattle.queue.proofs.Steps.{step-of, step-position, must-precede}
 use Rattle.queue.proofs.Accepting.{both}
 
 pub record Tables (q : Queue) (iotas : ℕ) (bound : List ℕ) : Type 0 where
@@ -52,7 +52,7 @@ module _ (q : Queue) (vlr iotas : ℕ) (bound : List ℕ) (t : Tables q iotas bo
     regroup-follows true false false = refl
     regroup-follows false b i = refl
 
-    same-follows : (a x : ℕ) → Mem a (stepsOf q vlr) → Mem x (stepsOf q vlr) → followsBy iotas bound a x ≡ mustFollow q vlr a x
+    same-follows : (a x : ℕ) → Mem a (stepsOf q vlr) → Mem x (stepsOf q vlr) → followsBy iotas bound a x ≡ mustPrecede q vlr a x
     unfolding followsBy boundOf
     same-follows a x ma mx =
         let sa = step-of q vlr a ma in let sx = step-of q vlr x mx in
@@ -60,10 +60,10 @@ module _ (q : Queue) (vlr iotas : ℕ) (bound : List ℕ) (t : Tables q iotas bo
         ap (λ (b : Bool). b && (bit iotas (position a) || bit iotas (position x) || eqb (element a) (element x))) (t .bind (position x) (position a) px)
         ∙ ap₂ (λ (i j : Bool). (ltb (position a) (position x) && binds (instructionAt q (position a)) (instructionAt q (position x))) && (i || j || eqb (element a) (element x))) (iota-at (position a) pa) (iota-at (position x) px)
         ∙ regroup-follows (ltb (position a) (position x)) (binds (instructionAt q (position a)) (instructionAt q (position x))) (isIota (kindOf (instructionAt q (position a) .work)) || isIota (kindOf (instructionAt q (position x) .work)) || eqb (element a) (element x))
-        ∙ sym (must-follow q vlr short a x sa sx)
+        ∙ sym (must-precede q vlr short a x sa sx)
 
     pub tables-verdict : (list : List ℕ) → verdictBy (size q) vlr iotas bound list ≡ verdictOf q vlr list
     unfolding verdictBy verdictOf
     tables-verdict list =
         ap (λ (s : List ℕ). check (followsBy iotas bound) s list) same-steps
-        ∙ check-same (stepsOf q vlr) (followsBy iotas bound) (mustFollow q vlr) same-follows list
+        ∙ check-same (stepsOf q vlr) (followsBy iotas bound) (mustPrecede q vlr) same-follows list

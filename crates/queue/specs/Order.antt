@@ -42,12 +42,12 @@ module _ (before : ℕ → ℕ → Bool) (steps : List ℕ) where
   ok seen x = has x steps && (not (has x seen) && ready seen x)
 
   -- the check from position i on, where `seen` has come and the list is left
-  unfoldable pub walk : List ℕ → ℕ → List ℕ → Verdict
-  walk seen i [] = pick (each (λ (a : ℕ). has a seen) steps) Permitted (Refused i)
-  walk seen i (x ∷ l) = pick (ok seen x) (walk (x ∷ seen) (suc i) l) (Refused i)
+  unfoldable pub checkFrom : List ℕ → ℕ → List ℕ → Verdict
+  checkFrom seen i [] = pick (each (λ (a : ℕ). has a seen) steps) Permitted (Refused i)
+  checkFrom seen i (x ∷ l) = pick (ok seen x) (checkFrom (x ∷ seen) (suc i) l) (Refused i)
 
   unfoldable pub check : List ℕ → Verdict
-  check l = walk [] 0 l
+  check l = checkFrom [] 0 l
 
   -- ---- what the answers mean
   -- the entry at k is a step, no repeat, and each step that it must follow has come

@@ -6,7 +6,7 @@ use lib.Dec.{leb, eqb}
 use lib.ListN.{length, getD}
 use Rattle.numbers.specs.Choice.{pick}
 use Rattle.state.specs.declared.Control.{Control}
-use Rattle.state.specs.Answer.{Answer, answer, done, reservedOpcode, disabled, outOfRange}
+use Rattle.state.specs.Answer.{Answer, done, reservedOpcode, memoryOpcode, queueRefused, disabled, outOfRange}
 use Rattle.state.specs.State.{inRange, enabled}
 use Rattle.opcodes.specs.declared.Instruction.{Instruction}
 use Rattle.opcodes.specs.declared.Opcode.{Opcode}
@@ -26,17 +26,10 @@ pub record Queue : Type 0 where
   pub controlWords : List ℕ
   pub scalars : List ℕ
 
--- more than 16 in a queue, or its parts of unequal length, gets 8
-abbrev pub queueRefused : Answer
-queueRefused = answer 8 0
-
--- a memory opcode in a queue gets 7
-abbrev pub memoryOpcode : ℕ → Answer
-memoryOpcode position = answer 7 position
-
 abbrev pub size : Queue → ℕ
 size q = length (q .opcodes)
 
+-- at most 16, and parts of equal length
 abbrev pub wellFormed : Queue → Bool
 wellFormed q = leb (size q) 16 && eqb (length (q .controlWords)) (size q) && eqb (length (q .scalars)) (size q)
 

@@ -1,11 +1,10 @@
 -- Document 01, "Numbers given back": the number of each reply of a call on a queue, and what stands beside it. And a queue made of its parts.
 use mathlib.Core.List.{List}
 use Prim.Native.Nat.{ℕ}
-use Rattle.state.specs.Answer.{Answer, done, reservedOpcode, reservedControlWord, disabled, outOfRange}
+use Rattle.state.specs.Answer.{Answer, done, reservedOpcode, reservedControlWord, disabled, memoryOpcode, queueRefused, orderRefused, outOfRange}
 use Rattle.queue.specs.declared.Reply.{Reply}
 use Rattle.queue.specs.declared.Reply.the-variants as reply
-use Rattle.queue.specs.Queue.{Queue, queueRefused, memoryOpcode}
-use Rattle.queue.specs.Run.{orderRefused}
+use Rattle.queue.specs.Queue.{Queue}
 
 abbrev pub replyAnswer : Reply → Answer
 replyAnswer reply.Done = done 0

@@ -3,13 +3,13 @@
 use mathlib.Core.List.{List}
 use Prim.Native.Nat.{ℕ}
 use Rattle.numbers.specs.Choice.{pick}
-use Rattle.state.specs.Answer.{Answer, answer, done}
+use Rattle.state.specs.Answer.{Answer, done, orderRefused}
 use Rattle.state.specs.State.{State}
 use Rattle.machine.specs.Run.{begun, finished}
 use Rattle.queue.specs.declared.Verdict.{Verdict}
 use Rattle.queue.specs.declared.Verdict.the-variants.{Permitted, Refused}
 use Rattle.queue.specs.Queue.{Queue, size, fine, acceptance, straight}
-use Rattle.queue.specs.Touch.{stepsOf, act, mustFollow}
+use Rattle.queue.specs.Touch.{stepsOf, act, mustPrecede}
 use Rattle.queue.specs.Order.{check, run}
 
 -- what a call gives back, and the state after it
@@ -20,10 +20,6 @@ pub record Outcome : Type 0 where
 abbrev pub outcome : Answer → State → Outcome
 outcome a s = record { answer = a; state = s }
 
--- the order is not permitted
-abbrev pub orderRefused : ℕ → Answer
-orderRefused place = answer 9 place
-
 -- the state after an accepted queue, run straight through; VEN and AEX change only at its end
 unfoldable pub ranThrough : Queue → State → State
 ranThrough q s = finished (straight q (size q) (begun s))
@@ -33,7 +29,7 @@ queueRun q s = pick (fine (acceptance (s .control) q)) (outcome (done 0) (ranThr
 
 -- the list is permitted, or is refused at a position
 unfoldable pub verdictOf : Queue → ℕ → List ℕ → Verdict
-verdictOf q vlr list = check (mustFollow q vlr) (stepsOf q vlr) list
+verdictOf q vlr list = check (mustPrecede q vlr) (stepsOf q vlr) list
 
 -- by a list of an accepted queue, where a permitted one ends in the state `end`
 abbrev pub byVerdict : State → State → Verdict → Outcome

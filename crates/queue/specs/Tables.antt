@@ -155,7 +155,7 @@ actBy program scalars x r = stepOf (decodedAt program (position x)) (getD scalar
 abbrev pub throughBy : List Instruction → List ℕ → ℕ → Run → Run
 throughBy program scalars n r = rising (λ (k : ℕ) (x : Run). wholeOf (decodedAt program k) (getD scalars k 0) x) n r
 
--- a list ends where the queue ends straight through, whatever the run begins with
+-- at this VLR a list ends where the queue ends straight through
 pub record EndsAlike (program : List Instruction) (scalars list : List ℕ) (vlr : ℕ) : Type 0 where
   pub same : (r : Run) → r .progress .control .vlr ≡ vlr → throughBy program scalars (length scalars) r ≡ run (actBy program scalars) list r
 

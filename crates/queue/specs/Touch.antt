@@ -95,8 +95,8 @@ unfoldable pub conflict : List ℕ → List ℕ → List ℕ → List ℕ → Bo
 conflict ra wa rb wb = meet wa wb || meet wa rb || meet ra wb
 
 -- step b must follow step a: a is of an earlier instruction, and they conflict
-unfoldable pub mustFollow : Queue → ℕ → ℕ → ℕ → Bool
-mustFollow q vlr a b = ltb (position a) (position b) && conflict (readsAt a) (writesAt a) (readsAt b) (writesAt b)
+unfoldable pub mustPrecede : Queue → ℕ → ℕ → ℕ → Bool
+mustPrecede q vlr a b = ltb (position a) (position b) && conflict (readsAt a) (writesAt a) (readsAt b) (writesAt b)
   where
     readsAt : ℕ → List ℕ
     readsAt x = reads (instructionAt q (position x)) vlr (element x)

@@ -80,7 +80,7 @@ fn iota_comes(came: &mut [u64; 64], bound: u64, x: u64) -> bool
     true
 }
 
-// The group of a position.
+// A position's group: itself and those that it is bound to, or none of an IOTA's.
 fn group(iota: bool, bound: u64, p: usize) -> u64
     requires { ⌜ p < 64 ⌝ }
     ensures { λ r. ⌜ r ≡ pick iota 0 (joined bound p) ⌝ }
@@ -92,7 +92,7 @@ fn group(iota: bool, bound: u64, p: usize) -> u64
 }
 
 // The groups of the first n positions.
-fn gather(groups: &mut [u64; 16], n: usize, iotas: u64, bound: &[u64; 16])
+fn fill(groups: &mut [u64; 16], n: usize, iotas: u64, bound: &[u64; 16])
     requires { ⌜ (length (now groups) ≡ 16) × (n ≤ 16) ⌝ }
     ensures { λ r. ⌜ ((p : ℕ) → p < n → getD (now (groups .exit)) p 0 ≡ groupOf iotas (now (bound .entry)) p) ⌝ }
 {
@@ -189,7 +189,7 @@ pub fn check(n: usize, vlr: u64, iotas: u64, bound: &[u64; 16], list: &[u64]) ->
     let mut came = [0u64; 64];
     start(&mut came, vlr, iotas);
     let mut groups = [0u64; 16];
-    gather(&mut groups, n, iotas, bound);
+    fill(&mut groups, n, iotas, bound);
     let mut at: usize = 0;
     let mut kept = came[0];
     let mut i: usize = 0;

@@ -11,14 +11,13 @@ use borrow.Author.Tests.{not-true, not-false, leb-true, ltb-true}
 use Rattle.numbers.specs.Choice.{pick}
 use Rattle.numbers.proofs.Tests.{and-left, pick-true, pick-false}
 use Rattle.state.specs.declared.Control.{Control}
-use Rattle.state.specs.Answer.{Answer, answer, done, badFile}
+use Rattle.state.specs.Answer.{Answer, answer, done, badFile, queueRefused}
 use Rattle.state.specs.State.{State, state}
 use Rattle.saved.specs.declared.Loaded.{Loaded}
 use Rattle.saved.specs.declared.Loaded.the-variants.{Done, BadRecord}
 use Rattle.saved.specs.Load.{accepted, leading, loading, answerOf}
 use Rattle.saved.proofs.Loading.{gives-state}
 use Rattle.saved.proofs.RoundTrip.{done-accepted, refused-at}
-use Rattle.queue.specs.Queue.{queueRefused}
 use Rattle.queue.specs.Reply.{queue}
 use Rattle.queue.specs.Run.{outcome, queueRun}
 use Rattle.running.specs.Records.{opcodeAt, controlWordAt, scalarAt, allUnfilled, wellFormed, filled, each, queueIn}

@@ -4,11 +4,11 @@ use Prim.Native.Nat.{ℕ, _/_}
 use lib.Dec.{leb, ltb}
 use lib.ListN.{length, take, drop, replicate}
 use Rattle.numbers.specs.Choice.{pick}
-use Rattle.state.specs.Answer.{badFile}
+use Rattle.state.specs.Answer.{badFile, queueRefused}
 use Rattle.state.specs.declared.Control.{Control}
 use Rattle.state.specs.State.{State, state, inRange}
 use Rattle.saved.specs.Load.{accepted, leading, stateIn}
-use Rattle.queue.specs.Queue.{queueRefused, fine}
+use Rattle.queue.specs.Queue.{fine}
 use Rattle.queue.specs.Run.{Outcome, outcome, queueRun}
 use Rattle.listing.specs.Text.{listing, printed, answerLine}
 use Rattle.running.specs.Records.{wellFormed, queueIn}

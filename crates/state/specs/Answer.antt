@@ -30,6 +30,18 @@ misaligned element = answer 5 element
 abbrev pub outsideWindow : ℕ → Answer
 outsideWindow element = answer 6 element
 
+-- a memory opcode in a queue
+abbrev pub memoryOpcode : ℕ → Answer
+memoryOpcode position = answer 7 position
+
+-- more than 16 in a queue, or its parts of unequal length
+abbrev pub queueRefused : Answer
+queueRefused = answer 8 0
+
+-- the order is not permitted
+abbrev pub orderRefused : ℕ → Answer
+orderRefused place = answer 9 place
+
 abbrev pub badFile : ℕ → Answer
 badFile recordNumber = answer 10 recordNumber
 

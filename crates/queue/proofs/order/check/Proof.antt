@@ -22,8 +22,8 @@ abbrev μ-loop : tie.MeasureT-loop
 start-requires : tie.Need-start-requires Inv-loop μ-loop
 start-requires c κs = (refl, c .before .before .pre .0 .1)
 
-gather-requires : tie.Need-gather-requires Inv-loop μ-loop
-gather-requires c κs = (refl, c .before .before .before .before .pre .0 .0)
+fill-requires : tie.Need-fill-requires Inv-loop μ-loop
+fill-requires c κs = (refl, c .before .before .before .before .pre .0 .0)
 
 array-read-kept : tie.Need-array-read-kept Inv-loop μ-loop
 array-read-kept c = search needs
@@ -42,7 +42,7 @@ shared-slice-read-passes c = search needs
 passes-requires : tie.Need-passes-requires Inv-loop μ-loop
 passes-requires c κs =
     let at = c .before .before .before .before in let s = at .before .before .before .before .before .before in
-    ((table-long (at .loop .came) (at .loop .at) (at .loop .kept) (at .loop .inv .1 .long), s .pre .0 .0, at .loop .inv .0), (s .pre .1, at .before .gather .ensures))
+    ((table-long (at .loop .came) (at .loop .at) (at .loop .kept) (at .loop .inv .1 .long), s .pre .0 .0, at .loop .inv .0), (s .pre .1, at .before .fill .ensures))
 
 returns : tie.Need-returns Inv-loop μ-loop
 returns c =
@@ -96,7 +96,7 @@ check-spec =
     Inv-loop
     μ-loop
     start-requires
-    gather-requires
+    fill-requires
     array-read-kept
     loop-holds
     mul-passes

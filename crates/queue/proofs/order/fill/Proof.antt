@@ -1,4 +1,4 @@
--- `gather` meets its contract: after p turns the first p groups are right. Assumes nothing.
+-- `fill` meets its contract: after p turns the first p groups are right. Assumes nothing.
 use mathlib.Core.Path.{_≡_, _∙_, ap}
 use mathlib.Core.Bool.{Bool}
 use Prim.Native.Nat.{ℕ, _≤_, _-_}
@@ -8,8 +8,8 @@ use lib.ListN.{getD}
 use Rattle.numbers.specs.Choice.{pick}
 use Rattle.queue.specs.Tables.{joined, groupOf}
 use Rattle.queue.proofs.Filling.{Filled, fill-none, fill-more}
-use Rattle.queue.proofs.order.gather.Statement.{statement}
-use Rattle.queue.proofs.order.gather.Tie as tie
+use Rattle.queue.proofs.order.fill.Statement.{statement}
+use Rattle.queue.proofs.order.fill.Tie as tie
 
 abbrev Inv-loop : tie.InvT-loop
 Inv-loop groups₀ n iotas bound p₀ groups p = (p ≤ n) × Filled 0 (λ (j v : ℕ). v ≡ groupOf iotas bound j) groups p
@@ -52,8 +52,8 @@ loop-again c =
 returns : tie.Need-returns Inv-loop μ-loop
 returns c = λ p h. c .before .loop .inv .1 .first p (let e = c .loop-test .left in omega arith)
 
-pub gather-spec : {M : Type 1} → statement M
-gather-spec =
+pub fill-spec : {M : Type 1} → statement M
+fill-spec =
     tie.close
     (tie.spec
     Inv-loop
