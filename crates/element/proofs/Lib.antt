@@ -1,2 +1,3 @@
 -- Laws of works.
 pub mod Codes
+pub mod Types

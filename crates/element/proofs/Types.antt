@@ -1,0 +1,93 @@
+-- What an element records is one of VAER's own bits. Assumes nothing.
+use mathlib.Core.Path.{_≡_, refl}
+use mathlib.Core.Bool.{Bool, true, false, cond, _&&_}
+use Prim.Native.Nat.{ℕ, _%_}
+use lib.Dec.{eqb}
+use Rattle.numbers.specs.Choice.{pick}
+use Rattle.numbers.specs.Halves.{low}
+use Rattle.numbers.specs.Signed.{overflows}
+use Rattle.state.specs.State.{vaerInRange}
+use Rattle.longword.specs.Longword.{sumOf, differenceOf, productOf}
+use Rattle.floating.specs.Format.{Format, F, isReserved}
+use Rattle.floating.specs.Exact.{valueOf, minus}
+use Rattle.floating.specs.Round.{near, chopped}
+use Rattle.floating.specs.declared.Answer.{Answer}
+use Rattle.floating.specs.declared.Compared.{Compared}
+use Rattle.floating.specs.declared.Outcome.{Outcome}
+use Rattle.floating.specs.declared.Outcome.the-variants.{Word, Overflow, Underflow, Reserved}
+use Rattle.floating.specs.Operations.{answered, sum, difference, product, side, holds, compared, lowBits, isWide, toLongword, roundedLongword, truncatedLongword, fromLongword}
+use Rattle.opcodes.specs.declared.Work.{Work}
+use Rattle.opcodes.specs.declared.Work.the-variants.{AddLongword, SubtractLongword, MultiplyLongword, CompareLongword, BitSet, ExclusiveOr, BitClear, ShiftRight, ShiftLeft, AddF, SubtractF, MultiplyF, CompareF, Convert, Iota, Merge, LoadLongword, LoadQuadword, StoreLongword, StoreQuadword}
+use Rattle.element.specs.Receives.{converted, resultOf}
+
+abbrev answer : ℕ → ℕ → Answer
+answer v t = record { value = v; types = t }
+
+abbrev bitWith : Bool → ℕ → Compared
+bitWith x t = record { bit = x; types = t }
+
+overflow : (t : Bool) → vaerInRange (pick t 32 0) ≡ true
+overflow true = refl
+overflow false = refl
+
+of-outcome : (exc : Bool) (o : Outcome) → vaerInRange (answered exc o .types) ≡ true
+of-outcome exc (Word w) = refl
+of-outcome exc Overflow = refl
+of-outcome true Underflow = refl
+of-outcome false Underflow = refl
+of-outcome exc Reserved = refl
+
+of-compare : (f : Format) (relation a b : ℕ) → vaerInRange (compared f relation a b .types) ≡ true
+of-compare f relation a b = go (isReserved f a) (isReserved f b) (holds (relation % 8) (side (minus (valueOf f a) (valueOf f b))))
+  where
+    go : (s t x : Bool) → vaerInRange (cond s (bitWith false 4) (cond t (bitWith false 4) (bitWith x 0)) .types) ≡ true
+    go true t x = refl
+    go false true x = refl
+    go false false x = refl
+
+of-longword : (f : Format) (made : ℕ → ℕ → ℕ) (exc : Bool) (w : ℕ) → vaerInRange (toLongword f made exc w .types) ≡ true
+of-longword f made exc w = go (isReserved f w) exc (isWide sign size)
+  where
+    sign : ℕ
+    sign = valueOf f w .sign
+
+    size : ℕ
+    size = made (valueOf f w .num) (valueOf f w .den)
+
+    go : (r e t : Bool) → vaerInRange (cond r (answer 0 4) (answer (lowBits sign size) (cond e (cond t 32 0) 0)) .types) ≡ true
+    go true e t = refl
+    go false true true = refl
+    go false true false = refl
+    go false false t = refl
+
+of-conversion : (conversion : ℕ) (exc : Bool) (b : ℕ) → vaerInRange (converted conversion exc b .types) ≡ true
+of-conversion conversion exc b = go (eqb conversion 5) (eqb conversion 4)
+  where
+    go : (s t : Bool) → vaerInRange (pick s (roundedLongword F exc (low b)) (pick t (truncatedLongword F exc (low b)) (answered exc (fromLongword F (low b)))) .types) ≡ true
+    go true t = of-longword F near exc (low b)
+    go false true = of-longword F chopped exc (low b)
+    go false false = of-outcome exc (fromLongword F (low b))
+
+-- WHAT AN ELEMENT RECORDS, whatever it reads
+pub types-in-range : (w : Work) (exc : Bool) (field : ℕ) (m : Bool) (a b c : ℕ) → vaerInRange (resultOf w exc field m a b c .types) ≡ true
+unfolding resultOf
+types-in-range AddLongword exc field m a b c = overflow (exc && overflows (sumOf a b))
+types-in-range SubtractLongword exc field m a b c = overflow (exc && overflows (differenceOf a b))
+types-in-range MultiplyLongword exc field m a b c = overflow (exc && overflows (productOf a b))
+types-in-range CompareLongword exc field m a b c = refl
+types-in-range BitSet exc field m a b c = refl
+types-in-range ExclusiveOr exc field m a b c = refl
+types-in-range BitClear exc field m a b c = refl
+types-in-range ShiftRight exc field m a b c = refl
+types-in-range ShiftLeft exc field m a b c = refl
+types-in-range AddF exc field m a b c = of-outcome exc (sum F (low a) (low b))
+types-in-range SubtractF exc field m a b c = of-outcome exc (difference F (low a) (low b))
+types-in-range MultiplyF exc field m a b c = of-outcome exc (product F (low a) (low b))
+types-in-range CompareF exc field m a b c = of-compare F field (low a) (low b)
+types-in-range Convert exc field m a b c = of-conversion field exc b
+types-in-range Iota exc field m a b c = refl
+types-in-range Merge exc field m a b c = refl
+types-in-range LoadLongword exc field m a b c = refl
+types-in-range LoadQuadword exc field m a b c = refl
+types-in-range StoreLongword exc field m a b c = refl
+types-in-range StoreQuadword exc field m a b c = refl
