@@ -9,8 +9,8 @@ mod sum;
 mod word;
 
 ghost use mathlib.Core.Path.{_≡_};
-ghost use mathlib.Core.Bool.{cond};
-ghost use Rattle.floating.specs.Format.{F};
+ghost use mathlib.Core.Bool.{Bool, true, false, cond};
+ghost use Rattle.floating.specs.Format.{F, isRare};
 ghost use Rattle.floating.specs.Reading.{Shows, longwordReading, kindOf, bitsOf};
 ghost use Rattle.floating.specs.Operations.{answered, sum, difference, product, compared, roundedLongword, truncatedLongword, fromLongword};
 
@@ -43,22 +43,32 @@ pub enum Reading {
 
 // An answer is handed on by its parts, which the compiler then keeps apart.
 
-// a plus b
-pub fn add(a: u32, b: u32, exc: bool) -> Answer
-    ensures { λ r. ⌜ r ≡ answered exc (sum F a b) ⌝ }
+// One of two words is zero or reserved. Their sum or difference is then another function's, so that each of the two is small enough for the compiler to put
+// into several loops.
+pub fn is_rare(a: u32, b: u32) -> bool
+    ensures { λ r. ⌜ r ≡ isRare F a b ⌝ }
 {
-    let r = sum::of_words(exc, a, word::sign_of(b), b);
+    (word::exponent_of(a) == 0) | (word::exponent_of(b) == 0)
+}
+
+// a minus b, or a plus b, where one of them is zero or reserved
+pub fn rare_total(minus: bool, a: u32, b: u32) -> Answer
+    requires { ⌜ isRare F a b ≡ true ⌝ }
+    ensures { λ r. ⌜ ((exc : Bool) → r ≡ answered exc (cond minus (difference F a b) (sum F a b))) ⌝ }
+{
+    let r = sum::add_rare(a, sum::sign_added(minus, b), b);
     Answer {
         value: r.value,
         types: r.types,
     }
 }
 
-// a minus b
-pub fn subtract(a: u32, b: u32, exc: bool) -> Answer
-    ensures { λ r. ⌜ r ≡ answered exc (difference F a b) ⌝ }
+// a minus b, or a plus b, where neither is
+pub fn common_total(minus: bool, a: u32, b: u32, exc: bool) -> Answer
+    requires { ⌜ isRare F a b ≡ false ⌝ }
+    ensures { λ r. ⌜ r ≡ answered exc (cond minus (difference F a b) (sum F a b)) ⌝ }
 {
-    let r = sum::of_words(exc, a, 1 - word::sign_of(b), b);
+    let r = sum::add_common(exc, a, sum::sign_added(minus, b), b);
     Answer {
         value: r.value,
         types: r.types,
@@ -66,15 +76,27 @@ pub fn subtract(a: u32, b: u32, exc: bool) -> Answer
 }
 
 // a minus b, or a plus b
-pub fn total(minus: bool, a: u32, b: u32, exc: bool) -> Answer
+fn total(minus: bool, a: u32, b: u32, exc: bool) -> Answer
     ensures { λ r. ⌜ r ≡ answered exc (cond minus (difference F a b) (sum F a b)) ⌝ }
 {
-    let s = word::sign_of(b);
-    let r = sum::of_words(exc, a, word::chosen(minus, 1 - s, s), b);
-    Answer {
-        value: r.value,
-        types: r.types,
+    if is_rare(a, b) {
+        return rare_total(minus, a, b);
     }
+    common_total(minus, a, b, exc)
+}
+
+// a plus b
+pub fn add(a: u32, b: u32, exc: bool) -> Answer
+    ensures { λ r. ⌜ r ≡ answered exc (sum F a b) ⌝ }
+{
+    total(false, a, b, exc)
+}
+
+// a minus b
+pub fn subtract(a: u32, b: u32, exc: bool) -> Answer
+    ensures { λ r. ⌜ r ≡ answered exc (difference F a b) ⌝ }
+{
+    total(true, a, b, exc)
 }
 
 // a times b
