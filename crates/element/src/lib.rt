@@ -57,7 +57,7 @@ pub fn short(code: u8, exc: bool, matches: bool, a: u64, b: u64, c: u64) -> Out
     }
 }
 
-// One of two operands of a floating sum or difference is zero or reserved.
+// Whether one of the operands of a floating sum or difference is zero or reserved.
 pub fn is_rare(a: u64, b: u64) -> bool
     ensures { λ r. ⌜ r ≡ isRare F (low a) (low b) ⌝ }
 {

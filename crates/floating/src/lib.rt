@@ -41,10 +41,8 @@ pub enum Reading {
     Reserved(u8),
 }
 
-// An answer is handed on by its parts, which the compiler then keeps apart.
-
-// One of two words is zero or reserved. Their sum or difference is then another function's, so that each of the two is small enough for the compiler to put
-// into several loops.
+// Whether one of two words is zero or reserved. The sum or the difference of such words has a function of its own, so that it and that of all others are small
+// enough for the compiler to put both into several loops.
 pub fn is_rare(a: u32, b: u32) -> bool
     ensures { λ r. ⌜ r ≡ isRare F a b ⌝ }
 {
@@ -56,11 +54,7 @@ pub fn rare_total(minus: bool, a: u32, b: u32) -> Answer
     requires { ⌜ isRare F a b ≡ true ⌝ }
     ensures { λ r. ⌜ ((exc : Bool) → r ≡ answered exc (cond minus (difference F a b) (sum F a b))) ⌝ }
 {
-    let r = sum::add_rare(a, sum::sign_added(minus, b), b);
-    Answer {
-        value: r.value,
-        types: r.types,
-    }
+    sum::add_rare(a, sum::sign_added(minus, b), b)
 }
 
 // a minus b, or a plus b, where neither is
@@ -68,11 +62,7 @@ pub fn common_total(minus: bool, a: u32, b: u32, exc: bool) -> Answer
     requires { ⌜ isRare F a b ≡ false ⌝ }
     ensures { λ r. ⌜ r ≡ answered exc (cond minus (difference F a b) (sum F a b)) ⌝ }
 {
-    let r = sum::add_common(exc, a, sum::sign_added(minus, b), b);
-    Answer {
-        value: r.value,
-        types: r.types,
-    }
+    sum::add_common(exc, a, sum::sign_added(minus, b), b)
 }
 
 // a minus b, or a plus b
@@ -98,6 +88,8 @@ pub fn subtract(a: u32, b: u32, exc: bool) -> Answer
 {
     total(true, a, b, exc)
 }
+
+// From here on an answer is handed on by its parts, which the compiler then keeps apart.
 
 // a times b
 pub fn multiply(a: u32, b: u32, exc: bool) -> Answer

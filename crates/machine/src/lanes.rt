@@ -1,6 +1,7 @@
 // Works that write elements, for the elements of a set: short works, floating sums and differences, products, and conversions. The number of a
 // short work is a constant where its loop is called: the compiler makes a loop for each. For all elements below a length the short works have loops of
-// their own.
+// their own. Floating sums and products have a loop with a scalar and one with a register, so that the form is chosen once for an instruction; the loops of
+// short works name the choice at each element, and the compiler makes two of each.
 use crate::operand;
 use element;
 use element::Out;
@@ -125,8 +126,8 @@ fn chosen(
     types
 }
 
-// The sums of the elements of a set with a scalar, or the differences. Which of the two kinds of a sum it is, is told here and not in a function of one
-// element: that one would be too large for the compiler to put into two loops.
+// The sums of a scalar and the elements of a set, or the differences. The loop itself tells rare operands from others: a function of one element with both
+// cases is too large for the compiler to put into two loops.
 fn scalar_totals(
     elements: &mut [u64; 1024],
     minus: bool,
@@ -156,7 +157,7 @@ fn scalar_totals(
     types
 }
 
-// The same with the elements of va.
+// The same with va's elements for the scalar.
 fn register_totals(
     elements: &mut [u64; 1024],
     minus: bool,
@@ -226,7 +227,7 @@ fn product(
     land(elements, types, element::product(exc, a, b, c), vc, i)
 }
 
-// The products of the elements of a set with a scalar.
+// The products of a scalar and the elements of a set.
 fn scalar_products(
     elements: &mut [u64; 1024],
     exc: bool,
@@ -248,7 +249,7 @@ fn scalar_products(
     types
 }
 
-// The same with the elements of va.
+// The same with va's elements for the scalar.
 fn register_products(
     elements: &mut [u64; 1024],
     exc: bool,

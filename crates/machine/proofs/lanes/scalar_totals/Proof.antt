@@ -21,10 +21,18 @@ lowest-requires : tie.Need-lowest-requires Inv-loop μ-loop
 lowest-requires c κs = search needs
 
 element-of-requires : tie.Need-element-of-requires Inv-loop μ-loop
-element-of-requires c κs = let b = index-below _ _ _ _ _ _ (c .before .before .before .loop .inv) (omega arith) (c .before .before .before .loop .inv .small) _ (c .before .lowest .ensures) in search needs
+element-of-requires c κs =
+    let l = c .before in
+    let v = l .before .before .loop .inv in
+    let b = index-below _ _ _ _ _ _ v (omega arith) (v .small) _ (l .lowest .ensures) in
+    search needs
 
 element-of-requires-2 : tie.Need-element-of-requires-2 Inv-loop μ-loop
-element-of-requires-2 c κs = let b = index-below _ _ _ _ _ _ (c .before .before .before .before .before .loop .inv) (omega arith) (c .before .before .before .before .before .loop .inv .small) _ (c .before .before .before .lowest .ensures) in search needs
+element-of-requires-2 c κs =
+    let l = c .before .before .before in
+    let v = l .before .before .loop .inv in
+    let b = index-below _ _ _ _ _ _ v (omega arith) (v .small) _ (l .lowest .ensures) in
+    search needs
 
 is-rare-requires : tie.Need-is-rare-requires Inv-loop μ-loop
 is-rare-requires c κs = search needs
@@ -36,7 +44,11 @@ common-total-requires : tie.Need-common-total-requires Inv-loop μ-loop
 common-total-requires c κs = sym (c .before .is-rare .ensures) ∙ c .if1 .left
 
 land-requires : tie.Need-land-requires Inv-loop μ-loop
-land-requires c κs = let b = index-below _ _ _ _ _ _ (c .before .before .before .before .before .before .before .before .before .loop .inv) (omega arith) (c .before .before .before .before .before .before .before .before .before .loop .inv .small) _ (c .before .before .before .before .before .before .before .lowest .ensures) in search needs
+land-requires c κs =
+    let l = c .before .before .before .before .before .before .before in
+    let v = l .before .before .loop .inv in
+    let b = index-below _ _ _ _ _ _ v (omega arith) (v .small) _ (l .lowest .ensures) in
+    search needs
 
 without-lowest-requires : tie.Need-without-lowest-requires Inv-loop μ-loop
 without-lowest-requires c κs = search needs
@@ -55,7 +67,7 @@ loop-again c =
     let l = y .before .before in
     let v = l .before .before .loop .inv in
     turns-walk _ _ _ _ _ _ v (omega arith) (v .small) _ (l .lowest .ensures) _ (c .without-lowest .ensures) _
-    (lands _ _ _ _ _ _ _ _ _ (j .if1 .o) (y .element-of .ensures) (z .element-of2 .ensures) (⊎-elim (λ w. w .2 ∙ w .1 .ensures (l .before .before .before .args .exc)) (λ w. w .2 ∙ w .1 .ensures) (j .if1 .came)) (c .before .land .ensures))
+    (lands _ _ _ _ _ _ _ _ _ (j .if1 .o) (y .element-of .ensures) (z .element-of2 .ensures) (⊎-elim (λ w. w .2 ∙ w .1 .ensures _) (λ w. w .2 ∙ w .1 .ensures) (j .if1 .came)) (c .before .land .ensures))
 
 returns : tie.Need-returns Inv-loop μ-loop
 returns c = ends-walk _ _ _ _ _ _ (c .before .loop .inv) (c .loop-test .left)
