@@ -1,5 +1,5 @@
 -- A work's number stands for that work. Assumes nothing.
-use mathlib.Core.Path.{_≡_, refl}
+use mathlib.Core.Path.{_≡_, refl, ap, ap₂, _∙_}
 use mathlib.Core.Bool.{Bool, true, false, cond}
 use mathlib.Core.Logic.{_⊎_, inl, inr}
 use mathlib.Core.List.{List, [], _∷_}
@@ -12,6 +12,7 @@ use Rattle.numbers.specs.Choice.{pick}
 use Rattle.numbers.specs.Halves.{low}
 use Rattle.floating.specs.Format.{F, isReserved}
 use Rattle.floating.specs.Operations.{answered, sum, difference}
+use Rattle.floating.specs.declared.Answer.{Answer}
 use Rattle.floating.specs.declared.Compared.{Compared}
 use Rattle.element.specs.Receives.{quiet, floatingOut, resultOf}
 use Rattle.element.specs.Groups.{coded, shortWork, totalWork, compareWork}
@@ -70,11 +71,15 @@ no-short (suc (suc (suc (suc (suc (suc (suc (suc (suc (suc (suc (suc (suc (suc (
 no-short (suc (suc (suc (suc (suc (suc (suc (suc (suc (suc (suc (suc (suc (suc (suc (suc zero)))))))))))))))) r exc matches a b c = absurd (r .1 refl)
 no-short (suc (suc (suc (suc (suc (suc (suc (suc (suc (suc (suc (suc (suc (suc (suc (suc (suc n))))))))))))))))) r exc matches a b c = refl
 
--- the floating difference, or the sum
-pub is-total : (minus exc : Bool) (a b c : ℕ) → floatingOut c (answered exc (cond minus (difference F (low a) (low b)) (sum F (low a) (low b)))) ≡ resultOf (totalWork minus) exc 0 false a b c
+-- the floating difference, or the sum, of words as they were cut
+pub is-total : (minus exc : Bool) (a b c w v : ℕ) (x : Answer) → w ≡ low a → v ≡ low b → x ≡ answered exc (cond minus (difference F w v) (sum F w v))
+    → floatingOut c x ≡ resultOf (totalWork minus) exc 0 false a b c
 unfolding resultOf
-is-total true exc a b c = refl
-is-total false exc a b c = refl
+is-total minus exc a b c w v x hw hv hx = ap (floatingOut c) hx ∙ ap₂ (λ (y z : ℕ). floatingOut c (answered exc (cond minus (difference F y z) (sum F y z)))) hw hv ∙ at minus
+  where
+    at : (t : Bool) → floatingOut c (answered exc (cond t (difference F (low a) (low b)) (sum F (low a) (low b)))) ≡ resultOf (totalWork t) exc 0 false a b c
+    at true = refl
+    at false = refl
 
 -- the numbers of the other works of a first operand's or a source's value, before those of the short ones
 abbrev pub valueNumbers : List ℕ

@@ -1,5 +1,5 @@
--- The works of one element in groups, each done by a function of its own: integer, logical and shift works and merge, which are short; floating sum and difference; floating product; convert; and compares. No public promise
--- cites this.
+-- The works of one element in groups, each done by a function of its own: integer, logical and shift works and merge, which are short; floating sum and difference, which are two functions, one for rare operands; floating
+-- product; convert; and compares. No public promise cites this.
 use mathlib.Core.Bool.{Bool}
 use mathlib.Core.List.{[], _∷_}
 use Prim.Native.Nat.{ℕ}

@@ -2,34 +2,26 @@
 use crate::Out;
 use numbers::halves;
 ghost use mathlib.Core.Path.{_≡_};
-ghost use mathlib.Core.Bool.{cond};
 ghost use Rattle.numbers.specs.Halves.{low};
 ghost use Rattle.floating.specs.Format.{F};
-ghost use Rattle.floating.specs.Operations.{answered, sum, difference, product, compared};
+ghost use Rattle.floating.specs.Operations.{answered, product, compared};
 ghost use Rattle.element.specs.Receives.{floatingOut, comparedOut, converted};
 
 // Bits <31:0>.
-fn word(x: u64) -> u32
+pub fn word(x: u64) -> u32
     ensures { λ r. ⌜ r ≡ low x ⌝ }
 {
     (x % 4294967296) as u32
 }
 
 // A 32-bit result in the low half, with what it recorded.
-fn place(c: u64, x: floating::Answer) -> Out
+pub fn place(c: u64, x: floating::Answer) -> Out
     ensures { λ r. ⌜ r ≡ floatingOut c x ⌝ }
 {
     Out {
         value: halves::with_low(c, x.value),
         types: x.types as u64,
     }
-}
-
-// The difference, or the sum.
-pub fn total(minus: bool, exc: bool, a: u64, b: u64, c: u64) -> Out
-    ensures { λ r. ⌜ r ≡ floatingOut c (answered exc (cond minus (difference F (low a) (low b)) (sum F (low a) (low b)))) ⌝ }
-{
-    place(c, floating::total(minus, word(a), word(b), exc))
 }
 
 pub fn multiply(exc: bool, a: u64, b: u64, c: u64) -> Out

@@ -4,7 +4,9 @@ ghost use mathlib.Core.Path.{_≡_};
 ghost use Rattle.numbers.specs.Choice.{pick};
 ghost use Rattle.opcodes.specs.declared.Work.the-variants.{MultiplyF, Convert};
 ghost use Rattle.opcodes.specs.WorkNumbers.{workNumber};
-ghost use mathlib.Core.Bool.{false};
+ghost use mathlib.Core.Bool.{Bool, true, false};
+ghost use Rattle.numbers.specs.Halves.{low};
+ghost use Rattle.floating.specs.Format.{F, isRare};
 ghost use Rattle.element.specs.Receives.{quiet as quietOut, bitOut, resultOf};
 ghost use Rattle.element.specs.Groups.{shortWork, totalWork, compareWork};
 
@@ -55,11 +57,33 @@ pub fn short(code: u8, exc: bool, matches: bool, a: u64, b: u64, c: u64) -> Out
     }
 }
 
-// The floating sum of one element, or the difference.
-pub fn total(minus: bool, exc: bool, a: u64, b: u64, c: u64) -> Out
+// Whether one of the operands of a floating sum or difference is zero or reserved.
+pub fn is_rare(a: u64, b: u64) -> bool
+    ensures { λ r. ⌜ r ≡ isRare F (low a) (low b) ⌝ }
+{
+    floating::is_rare(float::word(a), float::word(b))
+}
+
+// The floating sum of one element, or the difference, where an operand is zero or reserved.
+pub fn rare_total(minus: bool, a: u64, b: u64, c: u64) -> Out
+    requires { ⌜ isRare F (low a) (low b) ≡ true ⌝ }
+    ensures { λ r. ⌜ ((exc : Bool) → r ≡ resultOf (totalWork minus) exc 0 false a b c) ⌝ }
+{
+    float::place(
+        c,
+        floating::rare_total(minus, float::word(a), float::word(b)),
+    )
+}
+
+// The floating sum of one element, or the difference, where no operand is.
+pub fn common_total(minus: bool, exc: bool, a: u64, b: u64, c: u64) -> Out
+    requires { ⌜ isRare F (low a) (low b) ≡ false ⌝ }
     ensures { λ r. ⌜ r ≡ resultOf (totalWork minus) exc 0 false a b c ⌝ }
 {
-    float::total(minus, exc, a, b, c)
+    float::place(
+        c,
+        floating::common_total(minus, float::word(a), float::word(b), exc),
+    )
 }
 
 // The floating product of one element.

@@ -7,7 +7,7 @@ use lib.Dec.{eqb}
 use borrow.Author.Tests.{eqb-true, eqb-false, ne-eqb}
 use Rattle.floating.specs.declared.Outcome.{Outcome}
 use Rattle.floating.specs.declared.Outcome.the-variants.{Word, Overflow, Underflow, Reserved}
-use Rattle.floating.specs.Format.{Format, exponentOf, isReserved}
+use Rattle.floating.specs.Format.{Format, exponentOf, isReserved, isRare}
 use Rattle.floating.specs.Operations.{answered}
 
 -- ---- the answer to an outcome
@@ -47,21 +47,25 @@ module _ (p q t u : Bool) (x : Outcome) (ht : t ≡ p) (hu : u ≡ q) where
       go false false h = refl
 
 -- ---- one test for both exponents
-module _ (x y a b : ℕ) (hx : x ≡ a) (hy : y ≡ b) where
-  pub none-zero : (eqb x 0 || eqb y 0) ≡ false → (a ≡ 0 → ⊥) × (b ≡ 0 → ⊥)
-  none-zero h = go (eqb x 0) (eqb y 0) refl refl h
+module _ (f : Format) (a b : ℕ) where
+  -- as the code makes it
+  pub rare-tested : (x y : ℕ) → x ≡ exponentOf f a → y ≡ exponentOf f b → (eqb x 0 || eqb y 0) ≡ isRare f a b
+  rare-tested x y hx hy = ap (λ (z : ℕ). eqb z 0 || eqb y 0) hx ∙ ap (λ (z : ℕ). eqb (exponentOf f a) 0 || eqb z 0) hy
+
+  pub none-zero : isRare f a b ≡ false → (exponentOf f a ≡ 0 → ⊥) × (exponentOf f b ≡ 0 → ⊥)
+  none-zero h = go (eqb (exponentOf f a) 0) (eqb (exponentOf f b) 0) refl refl h
     where
-      go : (p q : Bool) → eqb x 0 ≡ p → eqb y 0 ≡ q → (p || q) ≡ false → (a ≡ 0 → ⊥) × (b ≡ 0 → ⊥)
+      go : (p q : Bool) → eqb (exponentOf f a) 0 ≡ p → eqb (exponentOf f b) 0 ≡ q → (p || q) ≡ false → (exponentOf f a ≡ 0 → ⊥) × (exponentOf f b ≡ 0 → ⊥)
       go true q e g h = let z : _≡_ {A = ℕ} 0 1 = cc in absurd (omega arith)
       go false true e g h = let z : _≡_ {A = ℕ} 0 1 = cc in absurd (omega arith)
-      go false false e g h = (λ z. eqb-false x 0 e (hx ∙ z), λ z. eqb-false y 0 g (hy ∙ z))
+      go false false e g h = (eqb-false _ 0 e, eqb-false _ 0 g)
 
-  pub some-zero : (eqb x 0 || eqb y 0) ≡ true → (a ≡ 0 → ⊥) → b ≡ 0
-  some-zero h n = go (eqb x 0) (eqb y 0) refl refl h
+  pub some-zero : isRare f a b ≡ true → (exponentOf f a ≡ 0 → ⊥) → exponentOf f b ≡ 0
+  some-zero h n = go (eqb (exponentOf f a) 0) (eqb (exponentOf f b) 0) refl refl h
     where
-      go : (p q : Bool) → eqb x 0 ≡ p → eqb y 0 ≡ q → (p || q) ≡ true → b ≡ 0
-      go true q e g h = absurd (n (sym hx ∙ eqb-true x 0 e))
-      go false true e g h = sym hy ∙ eqb-true y 0 g
+      go : (p q : Bool) → eqb (exponentOf f a) 0 ≡ p → eqb (exponentOf f b) 0 ≡ q → (p || q) ≡ true → exponentOf f b ≡ 0
+      go true q e g h = absurd (n (eqb-true _ 0 e))
+      go false true e g h = eqb-true _ 0 g
       go false false e g h = let z : _≡_ {A = ℕ} 0 1 = cc in absurd (omega arith)
 
 -- a number is not reserved

@@ -276,12 +276,18 @@ module _ (f : Format) (S : Sound f) where
       judged-word f s (exponentOf f w) (significandOf f w) (exponentOf f w) r n k (hr ∙ ap (λ (z : ℕ). wordOf f s (exponentOf f w) z) (sym x))
       ∙ alone-delivered f s w (exponentOf f w) (significandOf f w) (S .first) refl n refl (omega arith) (omega arith)
 
-  module _ (a b t : ℕ) where
-    pub combined-sum : t ≡ signOf f b → combined f a t b ≡ sum f a b
-    combined-sum ht = ap (λ (z : Outcome). cond (isReserved f a) Reserved (cond (isReserved f b) Reserved z)) (ap (λ (y : ℕ). delivered f (together (signOf f a) (sizeOf f a) y (sizeOf f b) (2 ^ (f .bits + f .excess)))) ht ∙ sym (scaled-sum f (signOf f a) (sizeOf f a) (signOf f b) (sizeOf f b) (2 ^ (f .bits + f .excess)) (pow-pos (f .bits + f .excess))))
+  -- the sum, or the difference
+  module _ (a b : ℕ) where
+    scaled : (t : ℕ)
+        → combined f a t b
+        ≡ cond (isReserved f a) Reserved
+        (cond (isReserved f b) Reserved
+        (delivered f (together (signOf f a) (sizeOf f a * 2 ^ (f .bits + f .excess)) t (sizeOf f b * 2 ^ (f .bits + f .excess)) (2 ^ (f .bits + f .excess) * 2 ^ (f .bits + f .excess)))))
+    scaled t = ap (λ (z : Outcome). cond (isReserved f a) Reserved (cond (isReserved f b) Reserved z)) (sym (scaled-sum f (signOf f a) (sizeOf f a) t (sizeOf f b) (2 ^ (f .bits + f .excess)) (pow-pos (f .bits + f .excess))))
 
-    pub combined-difference : t ≡ signOf f b → combined f a (1 - t) b ≡ difference f a b
-    combined-difference ht = ap (λ (z : Outcome). cond (isReserved f a) Reserved (cond (isReserved f b) Reserved z)) (ap (λ (y : ℕ). delivered f (together (signOf f a) (sizeOf f a) (1 - y) (sizeOf f b) (2 ^ (f .bits + f .excess)))) ht ∙ sym (scaled-sum f (signOf f a) (sizeOf f a) (1 - signOf f b) (sizeOf f b) (2 ^ (f .bits + f .excess)) (pow-pos (f .bits + f .excess))))
+    pub combined-total : (minus : Bool) (t : ℕ) → t ≡ cond minus (1 - signOf f b) (signOf f b) → combined f a t b ≡ cond minus (difference f a b) (sum f a b)
+    combined-total true t e = ap (λ (z : ℕ). combined f a z b) e ∙ scaled (1 - signOf f b)
+    combined-total false t e = ap (λ (z : ℕ). combined f a z b) e ∙ scaled (signOf f b)
 
 -- as the code makes it
 pub alone-made : (r s w e k : ℕ) → s < 2 → e ≡ exponentOf F w → (e ≡ 0 → ⊥) → k ≡ magnitude F w → r ≡ turned (s * 2147483648 + k) → Word r ≡ delivered F (units F s (sizeOf F w))

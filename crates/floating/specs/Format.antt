@@ -1,6 +1,6 @@
 -- Document 01, "What an element receives", the item on F_floating: a format's numbers, and where its fields lie in a word. Definitions only.
 use Prim.Native.Nat.{ℕ, zero, suc, _+_, _-_, _*_, _/_, _%_, _^_}
-use mathlib.Core.Bool.{Bool, false, cond}
+use mathlib.Core.Bool.{Bool, false, cond, _||_}
 use lib.Dec.{eqb}
 
 pub record Format : Type 0 where
@@ -44,3 +44,7 @@ wordOf f s e x = s * 32768 + e * 2 ^ (f .lowest) + x / 65536 ^ (f .further) + up
 -- exponent 0 with sign 1
 abbrev pub isReserved : Format → ℕ → Bool
 isReserved f w = cond (eqb (exponentOf f w) 0) (eqb (signOf f w) 1) false
+
+-- one of two words is zero or reserved: its exponent is 0
+abbrev pub isRare : Format → ℕ → ℕ → Bool
+isRare f a b = eqb (exponentOf f a) 0 || eqb (exponentOf f b) 0

@@ -9,8 +9,8 @@ mod sum;
 mod word;
 
 ghost use mathlib.Core.Path.{_≡_};
-ghost use mathlib.Core.Bool.{cond};
-ghost use Rattle.floating.specs.Format.{F};
+ghost use mathlib.Core.Bool.{Bool, true, false, cond};
+ghost use Rattle.floating.specs.Format.{F, isRare};
 ghost use Rattle.floating.specs.Reading.{Shows, longwordReading, kindOf, bitsOf};
 ghost use Rattle.floating.specs.Operations.{answered, sum, difference, product, compared, roundedLongword, truncatedLongword, fromLongword};
 
@@ -41,41 +41,55 @@ pub enum Reading {
     Reserved(u8),
 }
 
-// An answer is handed on by its parts, which the compiler then keeps apart.
+// Whether one of two words is zero or reserved. The sum or the difference of such words has a function of its own, so that it and that of all others are small
+// enough for the compiler to put both into several loops.
+pub fn is_rare(a: u32, b: u32) -> bool
+    ensures { λ r. ⌜ r ≡ isRare F a b ⌝ }
+{
+    (word::exponent_of(a) == 0) | (word::exponent_of(b) == 0)
+}
+
+// a minus b, or a plus b, where one of them is zero or reserved
+pub fn rare_total(minus: bool, a: u32, b: u32) -> Answer
+    requires { ⌜ isRare F a b ≡ true ⌝ }
+    ensures { λ r. ⌜ ((exc : Bool) → r ≡ answered exc (cond minus (difference F a b) (sum F a b))) ⌝ }
+{
+    sum::add_rare(a, sum::sign_added(minus, b), b)
+}
+
+// a minus b, or a plus b, where neither is
+pub fn common_total(minus: bool, a: u32, b: u32, exc: bool) -> Answer
+    requires { ⌜ isRare F a b ≡ false ⌝ }
+    ensures { λ r. ⌜ r ≡ answered exc (cond minus (difference F a b) (sum F a b)) ⌝ }
+{
+    sum::add_common(exc, a, sum::sign_added(minus, b), b)
+}
+
+// a minus b, or a plus b
+fn total(minus: bool, a: u32, b: u32, exc: bool) -> Answer
+    ensures { λ r. ⌜ r ≡ answered exc (cond minus (difference F a b) (sum F a b)) ⌝ }
+{
+    if is_rare(a, b) {
+        return rare_total(minus, a, b);
+    }
+    common_total(minus, a, b, exc)
+}
 
 // a plus b
 pub fn add(a: u32, b: u32, exc: bool) -> Answer
     ensures { λ r. ⌜ r ≡ answered exc (sum F a b) ⌝ }
 {
-    let r = sum::of_words(exc, a, word::sign_of(b), b);
-    Answer {
-        value: r.value,
-        types: r.types,
-    }
+    total(false, a, b, exc)
 }
 
 // a minus b
 pub fn subtract(a: u32, b: u32, exc: bool) -> Answer
     ensures { λ r. ⌜ r ≡ answered exc (difference F a b) ⌝ }
 {
-    let r = sum::of_words(exc, a, 1 - word::sign_of(b), b);
-    Answer {
-        value: r.value,
-        types: r.types,
-    }
+    total(true, a, b, exc)
 }
 
-// a minus b, or a plus b
-pub fn total(minus: bool, a: u32, b: u32, exc: bool) -> Answer
-    ensures { λ r. ⌜ r ≡ answered exc (cond minus (difference F a b) (sum F a b)) ⌝ }
-{
-    let s = word::sign_of(b);
-    let r = sum::of_words(exc, a, word::chosen(minus, 1 - s, s), b);
-    Answer {
-        value: r.value,
-        types: r.types,
-    }
-}
+// From here on an answer is handed on by its parts, which the compiler then keeps apart.
 
 // a times b
 pub fn multiply(a: u32, b: u32, exc: bool) -> Answer

@@ -4,9 +4,9 @@ use crate::deliver;
 use crate::round;
 use crate::word;
 ghost use mathlib.Core.Path.{_≡_};
-ghost use mathlib.Core.Bool.{Bool};
+ghost use mathlib.Core.Bool.{Bool, true};
 ghost use Prim.Native.Nat.{_+_, _*_, _%_, _<_, _≤_};
-ghost use Rattle.floating.specs.Format.{F, signOf, exponentOf};
+ghost use Rattle.floating.specs.Format.{F, signOf, isRare};
 ghost use Rattle.floating.specs.Operations.{answered, product};
 
 // The product of two significands, 24 bits by 24.
@@ -25,7 +25,7 @@ fn sign_of_product(a: u32, b: u32) -> u32
 
 // One of the two is zero or reserved.
 fn multiply_rare(a: u32, b: u32) -> Answer
-    requires { ⌜ ((exponentOf F a ≡ 0 → ⊥) → exponentOf F b ≡ 0) ⌝ }
+    requires { ⌜ isRare F a b ≡ true ⌝ }
     ensures { λ r. ⌜ ((exc : Bool) → r ≡ answered exc (product F a b)) ⌝ }
 {
     let reserved = word::is_reserved(a) | word::is_reserved(b);

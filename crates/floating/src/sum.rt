@@ -4,10 +4,10 @@ use crate::deliver;
 use crate::round;
 use crate::word;
 ghost use mathlib.Core.Path.{_≡_};
-ghost use mathlib.Core.Bool.{Bool};
+ghost use mathlib.Core.Bool.{Bool, true, false, cond};
 ghost use Prim.Native.Nat.{_+_, _-_, _*_, _/_, _^_, _<_, _≤_};
 ghost use Rattle.floating.specs.declared.Outcome.the-variants.{Word};
-ghost use Rattle.floating.specs.Format.{F, exponentOf};
+ghost use Rattle.floating.specs.Format.{F, signOf, isRare};
 ghost use Rattle.floating.specs.Exact.{units, sizeOf, together};
 ghost use Rattle.floating.specs.Delivered.{delivered};
 ghost use Rattle.floating.specs.Operations.{answered};
@@ -65,8 +65,8 @@ fn alone(s: u32, word: u32) -> u32
 }
 
 // a, and b with the sign t, where one of them is zero or reserved.
-fn add_rare(a: u32, t: u32, b: u32) -> Answer
-    requires { ⌜ (t < 2) × ((exponentOf F a ≡ 0 → ⊥) → exponentOf F b ≡ 0) ⌝ }
+pub fn add_rare(a: u32, t: u32, b: u32) -> Answer
+    requires { ⌜ (t < 2) × (isRare F a b ≡ true) ⌝ }
     ensures { λ r. ⌜ ((exc : Bool) → r ≡ answered exc (combined F a t b)) ⌝ }
 {
     if word::is_reserved(a) | word::is_reserved(b) {
@@ -87,14 +87,11 @@ fn add_rare(a: u32, t: u32, b: u32) -> Answer
     }
 }
 
-// a, and b with the sign t.
-pub fn of_words(exc: bool, a: u32, t: u32, b: u32) -> Answer
-    requires { ⌜ t < 2 ⌝ }
+// a, and b with the sign t, where neither is.
+pub fn add_common(exc: bool, a: u32, t: u32, b: u32) -> Answer
+    requires { ⌜ (t < 2) × (isRare F a b ≡ false) ⌝ }
     ensures { λ r. ⌜ r ≡ answered exc (combined F a t b) ⌝ }
 {
-    if (word::exponent_of(a) == 0) | (word::exponent_of(b) == 0) {
-        return add_rare(a, t, b);
-    }
     add_sizes(
         exc,
         word::sign_of(a),
@@ -102,4 +99,12 @@ pub fn of_words(exc: bool, a: u32, t: u32, b: u32) -> Answer
         t,
         word::magnitude_of(b),
     )
+}
+
+// The sign with which b is added: its own, or with minus the other.
+pub fn sign_added(minus: bool, b: u32) -> u32
+    ensures { λ r. ⌜ (r < 2) × (r ≡ cond minus (1 - signOf F b) (signOf F b)) ⌝ }
+{
+    let s = word::sign_of(b);
+    word::chosen(minus, 1 - s, s)
 }

@@ -1,6 +1,6 @@
 -- The loops over elements, turn by turn. Assumes nothing.
-use mathlib.Core.Path.{_≡_, refl, sym, ap, _∙_}
-use mathlib.Core.Bool.{Bool}
+use mathlib.Core.Path.{_≡_, refl, sym, ap, ap₂, _∙_}
+use mathlib.Core.Bool.{Bool, true, false}
 use Prim.Native.Nat.{ℕ, _+_, _-_, _/_, _%_, _^_, _≤_}
 use native.Mathlib.Nat.{div-one}
 use lib.Dec.{eqb}
@@ -12,7 +12,7 @@ use Rattle.element.specs.declared.Out.{Out}
 use Rattle.element.specs.Receives.{resultOf}
 use Rattle.element.specs.Groups.{coded, shortWork}
 use Rattle.element.proofs.Codes.{NoneOf, valueNumbers, is-idle}
-use Rattle.machine.specs.Loops.{operandAt, Lanes, landed, laneWorked, laneStep, oneAt, shortAt, convertAt, workAt}
+use Rattle.machine.specs.Loops.{operandAt, Lanes, landed, laneWorked, laneRegister, laneStep, oneAt, shortAt, convertAt, workAt}
 use Rattle.state.specs.Elements.{at}
 
 module _ (w : ℕ → ℕ → ℕ → ℕ → Out) (scalar : Bool) (x va vb vc : ℕ) where
@@ -33,6 +33,26 @@ module _ (w : ℕ → ℕ → ℕ → ℕ → Out) (scalar : Bool) (x va vb vc :
     by-length : (n which : ℕ) (s₀ s : Lanes) → n ≤ 64 → which ≡ lowBits (2 ^ 64 - 1) n → s ≡ rising (laneStep w scalar x va vb vc) n s₀
         → s ≡ rising (ofOnes (laneStep v scalar x va vb vc) which) 64 s₀
     by-length n which s₀ s h e f = by-set which s₀ s (f ∙ all-below (laneStep w scalar x va vb vc) s₀ n which h e)
+
+-- the first operand by its form: the loop of a scalar, and that of a register
+module _ (w : ℕ → ℕ → ℕ → ℕ → Out) (x va vb vc which : ℕ) (s₀ s : Lanes) where
+  pub by-scalar : s ≡ rising (ofOnes (laneWorked w x vb vc) which) 64 s₀ → s ≡ rising (ofOnes (laneStep w true x va vb vc) which) 64 s₀
+  unfolding laneStep
+  by-scalar e = e ∙ ones-alike (laneWorked w x vb vc) (laneStep w true x va vb vc) which 64 s₀ (λ i y _. refl)
+
+  pub by-register : s ≡ rising (ofOnes (laneRegister w va vb vc) which) 64 s₀ → s ≡ rising (ofOnes (laneStep w false x va vb vc) which) 64 s₀
+  unfolding laneStep laneRegister
+  by-register e = e ∙ ones-alike (laneRegister w va vb vc) (laneStep w false x va vb vc) which 64 s₀ (λ i y _. refl)
+
+-- what element i receives of its operands, as they were fetched
+module _ (w : ℕ → ℕ → ℕ → ℕ → Out) (vb vc i a : ℕ) (s s′ : Lanes) where
+  pub lands : (b c : ℕ) (o : Out) → b ≡ at (s .elements) vb i → c ≡ at (s .elements) vc i → o ≡ w i a b c → s′ ≡ landed vc i s o → s′ ≡ laneWorked w a vb vc i s
+  unfolding laneWorked
+  lands b c o hb hc ho e = e ∙ ap (landed vc i s) ho ∙ ap₂ (λ (y z : ℕ). landed vc i s (w i a y z)) hb hc
+
+  pub of-register : (va : ℕ) → a ≡ at (s .elements) va i → s′ ≡ laneWorked w a vb vc i s → s′ ≡ laneRegister w va vb vc i s
+  unfolding laneRegister
+  of-register va ha e = e ∙ ap (λ (y : ℕ). laneWorked w y vb vc i s) ha
 
 -- a short work of one element, where matches says that its mask bit is MTF
 module _ (code : ℕ) (exc : Bool) (mask : ℕ) (scalar : Bool) (x va vb vc i a : ℕ) (matches : Bool) (s s′ : Lanes) where

@@ -44,6 +44,10 @@ landed vc i s o = lanes (set (s .elements) (placeOf vc i) (o .value)) (bitOr (s 
 unfoldable pub laneWorked : (ℕ → ℕ → ℕ → ℕ → Out) → ℕ → ℕ → ℕ → ℕ → Lanes → Lanes
 laneWorked w a vb vc i s = landed vc i s (w i a (at (s .elements) vb i) (at (s .elements) vc i))
 
+-- the same of va's element
+unfoldable pub laneRegister : (ℕ → ℕ → ℕ → ℕ → Out) → ℕ → ℕ → ℕ → ℕ → Lanes → Lanes
+laneRegister w va vb vc i s = laneWorked w (at (s .elements) va i) vb vc i s
+
 -- the same of the first operand
 unfoldable pub laneStep : (ℕ → ℕ → ℕ → ℕ → Out) → Bool → ℕ → ℕ → ℕ → ℕ → ℕ → Lanes → Lanes
 laneStep w scalar x va vb vc i s = laneWorked w (operandAt scalar x va (s .elements) i) vb vc i s

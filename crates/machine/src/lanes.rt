@@ -1,6 +1,7 @@
 // Works that write elements, for the elements of a set: short works, floating sums and differences, products, and conversions. The number of a
 // short work is a constant where its loop is called: the compiler makes a loop for each. For all elements below a length the short works have loops of
-// their own.
+// their own. Floating sums and products have a loop with a scalar and one with a register, so that the form is chosen once for an instruction; the loops of
+// short works name the choice at each element, and the compiler makes two of each.
 use crate::operand;
 use element;
 use element::Out;
@@ -13,7 +14,7 @@ ghost use Rattle.numbers.specs.Rising.{rising, ofOnes};
 ghost use Rattle.opcodes.specs.WorkNumbers.{workNumber};
 ghost use mathlib.Core.Bool.{false};
 ghost use Rattle.machine.specs.Kind.{kindOf, isCompare};
-ghost use Rattle.machine.specs.Loops.{lanes, landed, laneWorked, laneStep, oneAt, shortAt, totalAt, productAt, convertAt, workAt};
+ghost use Rattle.machine.specs.Loops.{lanes, landed, laneWorked, laneRegister, laneStep, oneAt, shortAt, totalAt, productAt, convertAt, workAt};
 
 // Element i of vc receives a result; the types that it recorded join the others.
 fn land(elements: &mut [u64; 1024], types: u64, o: Out, vc: usize, i: usize) -> u64
@@ -125,23 +126,66 @@ fn chosen(
     types
 }
 
-// The floating sum of one element, or the difference.
-fn total(
+// The sums of a scalar and the elements of a set, or the differences. The loop itself tells rare operands from others: a function of one element with both
+// cases is too large for the compiler to put into two loops.
+fn scalar_totals(
     elements: &mut [u64; 1024],
-    types: u64,
     minus: bool,
     exc: bool,
-    a: u64,
+    x: u64,
     vb: usize,
     vc: usize,
-    i: usize,
+    which: u64,
 ) -> u64
-    requires { ⌜ (vb < 16) × (vc < 16) × (i < 64) ⌝ }
-    ensures { λ r. ⌜ lanes (now (elements .exit)) r ≡ laneWorked (totalAt minus exc) a vb vc i (lanes (now (elements .entry)) types) ⌝ }
+    requires { ⌜ (vb < 16) × (vc < 16) ⌝ }
+    ensures { λ r. ⌜ lanes (now (elements .exit)) r ≡ rising (ofOnes (laneWorked (totalAt minus exc) x vb vc) which) 64 (lanes (now (elements .entry)) 0) ⌝ }
 {
-    let b = operand::element_of(&*elements, vb, i);
-    let c = operand::element_of(&*elements, vc, i);
-    land(elements, types, element::total(minus, exc, a, b, c), vc, i)
+    let mut types: u64 = 0;
+    let mut left = which;
+    while left != 0 {
+        let i = bits::lowest(left);
+        let b = operand::element_of(&*elements, vb, i);
+        let c = operand::element_of(&*elements, vc, i);
+        let o = if element::is_rare(x, b) {
+            element::rare_total(minus, x, b, c)
+        } else {
+            element::common_total(minus, exc, x, b, c)
+        };
+        types = land(&mut *elements, types, o, vc, i);
+        left = bits::without_lowest(left);
+    }
+    types
+}
+
+// The same with va's elements for the scalar.
+fn register_totals(
+    elements: &mut [u64; 1024],
+    minus: bool,
+    exc: bool,
+    va: usize,
+    vb: usize,
+    vc: usize,
+    which: u64,
+) -> u64
+    requires { ⌜ (va < 16) × (vb < 16) × (vc < 16) ⌝ }
+    ensures { λ r. ⌜ lanes (now (elements .exit)) r ≡ rising (ofOnes (laneRegister (totalAt minus exc) va vb vc) which) 64 (lanes (now (elements .entry)) 0) ⌝ }
+{
+    let mut types: u64 = 0;
+    let mut left = which;
+    while left != 0 {
+        let i = bits::lowest(left);
+        let a = operand::element_of(&*elements, va, i);
+        let b = operand::element_of(&*elements, vb, i);
+        let c = operand::element_of(&*elements, vc, i);
+        let o = if element::is_rare(a, b) {
+            element::rare_total(minus, a, b, c)
+        } else {
+            element::common_total(minus, exc, a, b, c)
+        };
+        types = land(&mut *elements, types, o, vc, i);
+        left = bits::without_lowest(left);
+    }
+    types
 }
 
 // The sums of the elements of a set, or the differences.
@@ -159,15 +203,10 @@ fn totals(
     requires { ⌜ (va < 16) × (vb < 16) × (vc < 16) ⌝ }
     ensures { λ r. ⌜ lanes (now (elements .exit)) r ≡ rising (ofOnes (laneStep (totalAt minus exc) scalar x va vb vc) which) 64 (lanes (now (elements .entry)) 0) ⌝ }
 {
-    let mut types: u64 = 0;
-    let mut left = which;
-    while left != 0 {
-        let i = bits::lowest(left);
-        let a = operand::first(&*elements, scalar, x, va, i);
-        types = total(&mut *elements, types, minus, exc, a, vb, vc, i);
-        left = bits::without_lowest(left);
+    if scalar {
+        return scalar_totals(elements, minus, exc, x, vb, vc, which);
     }
-    types
+    register_totals(elements, minus, exc, va, vb, vc, which)
 }
 
 // The floating product of one element.
@@ -188,6 +227,51 @@ fn product(
     land(elements, types, element::product(exc, a, b, c), vc, i)
 }
 
+// The products of a scalar and the elements of a set.
+fn scalar_products(
+    elements: &mut [u64; 1024],
+    exc: bool,
+    x: u64,
+    vb: usize,
+    vc: usize,
+    which: u64,
+) -> u64
+    requires { ⌜ (vb < 16) × (vc < 16) ⌝ }
+    ensures { λ r. ⌜ lanes (now (elements .exit)) r ≡ rising (ofOnes (laneWorked (productAt exc) x vb vc) which) 64 (lanes (now (elements .entry)) 0) ⌝ }
+{
+    let mut types: u64 = 0;
+    let mut left = which;
+    while left != 0 {
+        let i = bits::lowest(left);
+        types = product(&mut *elements, types, exc, x, vb, vc, i);
+        left = bits::without_lowest(left);
+    }
+    types
+}
+
+// The same with va's elements for the scalar.
+fn register_products(
+    elements: &mut [u64; 1024],
+    exc: bool,
+    va: usize,
+    vb: usize,
+    vc: usize,
+    which: u64,
+) -> u64
+    requires { ⌜ (va < 16) × (vb < 16) × (vc < 16) ⌝ }
+    ensures { λ r. ⌜ lanes (now (elements .exit)) r ≡ rising (ofOnes (laneRegister (productAt exc) va vb vc) which) 64 (lanes (now (elements .entry)) 0) ⌝ }
+{
+    let mut types: u64 = 0;
+    let mut left = which;
+    while left != 0 {
+        let i = bits::lowest(left);
+        let a = operand::element_of(&*elements, va, i);
+        types = product(&mut *elements, types, exc, a, vb, vc, i);
+        left = bits::without_lowest(left);
+    }
+    types
+}
+
 // The products of the elements of a set.
 fn products(
     elements: &mut [u64; 1024],
@@ -202,15 +286,10 @@ fn products(
     requires { ⌜ (va < 16) × (vb < 16) × (vc < 16) ⌝ }
     ensures { λ r. ⌜ lanes (now (elements .exit)) r ≡ rising (ofOnes (laneStep (productAt exc) scalar x va vb vc) which) 64 (lanes (now (elements .entry)) 0) ⌝ }
 {
-    let mut types: u64 = 0;
-    let mut left = which;
-    while left != 0 {
-        let i = bits::lowest(left);
-        let a = operand::first(&*elements, scalar, x, va, i);
-        types = product(&mut *elements, types, exc, a, vb, vc, i);
-        left = bits::without_lowest(left);
+    if scalar {
+        return scalar_products(elements, exc, x, vb, vc, which);
     }
-    types
+    register_products(elements, exc, va, vb, vc, which)
 }
 
 // The conversion of one element.

@@ -12,7 +12,8 @@ pub fn element_of(elements: &[u64; 1024], register: usize, i: usize) -> u64
     elements[register * 64 + i]
 }
 
-// The first operand: a scalar, or the register's element, which is read in its turn. The choice is one for each element.
+// The first operand of a short work or a compare: a scalar, or the register's element, which is read in its turn. The choice is one for each element; the
+// compiler takes it out of the loops of short works and of F compares.
 pub fn first(elements: &[u64; 1024], scalar: bool, x: u64, va: usize, i: usize) -> u64
     requires { ⌜ (va < 16) × (i < 64) ⌝ }
     ensures { λ r. ⌜ r ≡ operandAt scalar x va (now (elements .entry)) i ⌝ }

@@ -1,5 +1,7 @@
 -- `floating::product::multiply_rare` meets its contract. Assumes nothing.
+use Rattle.floating.specs.Format.{F}
 use Rattle.floating.proofs.Products.{rare-product}
+use Rattle.floating.proofs.Refusing.{some-zero}
 use borrow.Author.Needs.{needs}
 use Rattle.floating.proofs.product.multiply_rare.Statement.{statement}
 use Rattle.floating.proofs.product.multiply_rare.Tie as tie
@@ -19,7 +21,7 @@ chosen-requires-2 c κs = search needs
 returns : tie.Need-returns
 returns c =
     let a = c .before .before .before .before .args in
-    rare-product (a .a) (a .b) _ _ _ _ (c .before .before .before .before .pre) (c .before .before .before .is-reserved .ensures) (c .before .before .is-reserved2 .ensures) (c .before .chosen .ensures) (c .chosen2 .ensures)
+    rare-product (a .a) (a .b) _ _ _ _ (some-zero F (a .a) (a .b) (c .before .before .before .before .pre)) (c .before .before .before .is-reserved .ensures) (c .before .before .is-reserved2 .ensures) (c .before .chosen .ensures) (c .chosen2 .ensures)
 
 pub multiply-rare-spec : {M : Type 1} → statement M
 multiply-rare-spec =

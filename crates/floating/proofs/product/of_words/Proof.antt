@@ -1,7 +1,8 @@
 -- `floating::product::of_words` meets its contract. Assumes nothing.
-use mathlib.Core.Path.{ap, _∙_}
+use mathlib.Core.Path.{sym, ap, _∙_}
+use Rattle.floating.specs.Format.{F}
 use Rattle.floating.specs.Operations.{answered}
-use Rattle.floating.proofs.Refusing.{none-zero, some-zero}
+use Rattle.floating.proofs.Refusing.{none-zero, rare-tested}
 use Rattle.floating.proofs.Products.{product-settled}
 use borrow.Author.Needs.{needs}
 use Rattle.floating.proofs.product.of_words.Statement.{statement}
@@ -14,7 +15,9 @@ exponent-of-requires-2 : tie.Need-exponent-of-requires-2
 exponent-of-requires-2 c κs = search needs
 
 multiply-rare-requires : tie.Need-multiply-rare-requires
-multiply-rare-requires c κs = search (some-zero, needs)
+multiply-rare-requires c κs =
+    let d = c .before in
+    sym (rare-tested F _ _ _ _ (d .before .exponent-of .ensures) (d .exponent-of2 .ensures)) ∙ c .if1 .taken
 
 returns : tie.Need-returns
 returns c = c .multiply-rare .ensures (c .before .before .before .before .args .exc)
@@ -57,7 +60,7 @@ returns-2 c =
     let p = c .before .before .before .before in
     let d = p .before .before .before .before in
     let a = d .before .before .before .args in
-    let n = none-zero _ _ _ _ (d .before .before .exponent-of .ensures) (d .before .exponent-of2 .ensures) (d .if1 .left) in
+    let n = none-zero F (a .a) (a .b) (sym (rare-tested F (a .a) (a .b) _ _ (d .before .before .exponent-of .ensures) (d .before .exponent-of2 .ensures)) ∙ d .if1 .left) in
     c .deliver .ensures
     ∙ ap (answered (a .exc))
     (product-settled (a .a) (a .b) _ _ _ _ _ _ _ _ _ (p .before .before .before .sign-of-product .ensures .0) (d .before .before .exponent-of .ensures) (d .before .exponent-of2 .ensures) (n .0) (n .1) (p .before .before .significand-of .ensures) (p .before .significand-of2 .ensures) (p .whole-product .ensures .0) (z .ensures .1) (z .ensures .2) (y .ensures) (m .ensures .0))

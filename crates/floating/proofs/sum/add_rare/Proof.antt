@@ -3,7 +3,7 @@ use mathlib.Core.Path.{sym, _∙_}
 use Rattle.floating.specs.Format.{F}
 use Rattle.floating.proofs.Packing.{F-sound}
 use Rattle.floating.proofs.Sums.{left-none, right-none}
-use Rattle.floating.proofs.Refusing.{answer-reserved, answer-word, refused}
+use Rattle.floating.proofs.Refusing.{answer-reserved, answer-word, refused, some-zero}
 use borrow.Author.Needs.{needs}
 use Rattle.floating.proofs.sum.add_rare.Statement.{statement}
 use Rattle.floating.proofs.sum.add_rare.Tie as tie
@@ -41,7 +41,7 @@ returns-3 c = λ exc.
     let d = c .before .before .before .before in
     let a = d .before .before .before .args in
     let x = c .before .before .before .exponent-of in
-    answer-word exc _ (c .alone2 .result) (right-none F F-sound (a .a) (a .t) (a .b) _ _ (d .before .before .is-reserved .ensures) (d .before .is-reserved2 .ensures) (d .if1 .left) (c .alone2 .result) (c .before .sign-of .result) (d .before .before .before .pre .1 (λ z. c .before .before .if2 .left (x .ensures ∙ z))) (c .before .sign-of .ensures) (c .alone2 .ensures))
+    answer-word exc _ (c .alone2 .result) (right-none F F-sound (a .a) (a .t) (a .b) _ _ (d .before .before .is-reserved .ensures) (d .before .is-reserved2 .ensures) (d .if1 .left) (c .alone2 .result) (c .before .sign-of .result) (some-zero F (a .a) (a .b) (d .before .before .before .pre .1) (λ z. c .before .before .if2 .left (x .ensures ∙ z))) (c .before .sign-of .ensures) (c .alone2 .ensures))
 
 pub add-rare-spec : {M : Type 1} → statement M
 add-rare-spec =

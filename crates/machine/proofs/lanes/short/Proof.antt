@@ -1,4 +1,4 @@
-use Rattle.machine.specs.Loops.{laneWorked}
+use Rattle.machine.proofs.LaneLoops.{lands}
 use borrow.Author.Needs.{needs}
 use Rattle.machine.proofs.lanes.short.Statement.{statement}
 use Rattle.machine.proofs.lanes.short.Tie as tie
@@ -16,8 +16,7 @@ land-requires : tie.Need-land-requires
 land-requires c κs = search needs
 
 returns : tie.Need-returns
-unfolding laneWorked
-returns c = rw (← (c .before .before .before .before .before .element-of .ensures), ← (c .before .before .before .element-of2 .ensures), ← (c .before .short .ensures)) (c .land .ensures)
+returns c = lands _ _ _ _ _ _ _ _ _ _ (c .before .before .before .before .before .element-of .ensures) (c .before .before .before .element-of2 .ensures) (c .before .short .ensures) (c .land .ensures)
 
 pub short-spec : {M : Type 1} → statement M
 short-spec = tie.close (tie.spec element-of-requires element-of-requires-2 short-requires land-requires returns)

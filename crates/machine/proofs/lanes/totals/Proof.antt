@@ -1,52 +1,19 @@
-use native.Mathlib.Omega.{arith}
 use borrow.Author.Needs.{needs}
-use Rattle.numbers.proofs.SetBits.{Walk, starts-walk, ends-walk, index-below, less-left, turns-walk}
-use Rattle.machine.specs.Loops.{lanes, laneStep, totalAt}
-use Rattle.machine.proofs.LaneLoops.{works}
+use Rattle.machine.proofs.LaneLoops.{by-scalar, by-register}
 use Rattle.machine.proofs.lanes.totals.Statement.{statement}
 use Rattle.machine.proofs.lanes.totals.Tie as tie
 
-abbrev Inv-loop : tie.InvT-loop
-Inv-loop elements₀ minus exc scalar x va vb vc which types₀ left₀ elements types left = Walk (laneStep (totalAt minus exc) scalar x va vb vc) which 64 (lanes elements₀ 0) left (lanes elements types)
+scalar-totals-requires : tie.Need-scalar-totals-requires
+scalar-totals-requires c κs = search needs
 
-abbrev μ-loop : tie.MeasureT-loop
-μ-loop elements₀ minus exc scalar x va vb vc which types₀ left₀ elements types left = left
+returns : tie.Need-returns
+returns c = rw (c .before .before .if1 .taken) (by-scalar _ _ _ _ _ _ _ _ (c .scalar-totals .ensures))
 
-loop-holds : tie.Need-loop-holds Inv-loop μ-loop
-loop-holds c = search (starts-walk, needs)
+register-totals-requires : tie.Need-register-totals-requires
+register-totals-requires c κs = search needs
 
-lowest-requires : tie.Need-lowest-requires Inv-loop μ-loop
-lowest-requires c κs = search needs
-
-first-requires : tie.Need-first-requires Inv-loop μ-loop
-first-requires c κs = let b = index-below _ _ _ _ _ _ (c .before .before .before .loop .inv) (omega arith) (c .before .before .before .loop .inv .small) _ (c .before .lowest .ensures) in search needs
-
-total-requires : tie.Need-total-requires Inv-loop μ-loop
-total-requires c κs = let b = index-below _ _ _ _ _ _ (c .before .before .before .before .before .loop .inv) (omega arith) (c .before .before .before .before .before .loop .inv .small) _ (c .before .before .before .lowest .ensures) in search needs
-
-without-lowest-requires : tie.Need-without-lowest-requires Inv-loop μ-loop
-without-lowest-requires c κs = search needs
-
-loop-less : tie.Need-loop-less Inv-loop μ-loop
-loop-less c = less-left _ _ _ _ _ _ (c .before .before .before .before .before .before .before .loop .inv) (omega arith) (c .before .before .before .before .before .before .before .loop .inv .small) _ (c .before .before .before .before .before .lowest .ensures) _ (c .without-lowest .ensures)
-
-loop-again : tie.Need-loop-again Inv-loop μ-loop
-loop-again c = turns-walk _ _ _ _ _ _ (c .before .before .before .before .before .before .before .loop .inv) (omega arith) (c .before .before .before .before .before .before .before .loop .inv .small) _ (c .before .before .before .before .before .lowest .ensures) _ (c .without-lowest .ensures) _ (works _ _ _ _ _ _ _ _ _ _ (c .before .before .before .first .ensures) (c .before .total .ensures))
-
-returns : tie.Need-returns Inv-loop μ-loop
-returns c = ends-walk _ _ _ _ _ _ (c .before .loop .inv) (c .loop-test .left)
+returns-2 : tie.Need-returns-2
+returns-2 c = rw (c .before .before .if1 .left) (by-register _ _ _ _ _ _ _ _ (c .register-totals .ensures))
 
 pub totals-spec : {M : Type 1} → statement M
-totals-spec =
-    tie.close
-    (tie.spec
-    Inv-loop
-    μ-loop
-    loop-holds
-    lowest-requires
-    first-requires
-    total-requires
-    without-lowest-requires
-    loop-less
-    loop-again
-    returns)
+totals-spec = tie.close (tie.spec scalar-totals-requires returns register-totals-requires returns-2)

@@ -1,0 +1,24 @@
+-- `floating::common_total` meets its contract. Assumes nothing.
+use mathlib.Core.Path.{ap, _∙_}
+use Rattle.floating.specs.Format.{F}
+use Rattle.floating.specs.Operations.{answered}
+use Rattle.floating.proofs.Packing.{F-sound}
+use Rattle.floating.proofs.Sums.{combined-total}
+use borrow.Author.Needs.{needs}
+use Rattle.floating.proofs.common_total.Statement.{statement}
+use Rattle.floating.proofs.common_total.Tie as tie
+
+sign-added-requires : tie.Need-sign-added-requires
+sign-added-requires c κs = search needs
+
+add-common-requires : tie.Need-add-common-requires
+add-common-requires c κs = search needs
+
+returns : tie.Need-returns
+returns c =
+    let a = c .before .before .args in
+    let t = c .before .sign-added in
+    c .add-common .ensures ∙ ap (answered (a .exc)) (combined-total F F-sound (a .a) (a .b) (a .minus) (t .result) (t .ensures .1))
+
+pub common-total-spec : {M : Type 1} → statement M
+common-total-spec = tie.close (tie.spec sign-added-requires add-common-requires returns)

@@ -1,0 +1,52 @@
+use native.Mathlib.Omega.{arith}
+use borrow.Author.Needs.{needs}
+use Rattle.numbers.proofs.SetBits.{Walk, starts-walk, ends-walk, index-below, less-left, turns-walk}
+use Rattle.machine.specs.Loops.{lanes, laneRegister, productAt}
+use Rattle.machine.proofs.LaneLoops.{of-register}
+use Rattle.machine.proofs.lanes.register_products.Statement.{statement}
+use Rattle.machine.proofs.lanes.register_products.Tie as tie
+
+abbrev Inv-loop : tie.InvT-loop
+Inv-loop elements₀ exc va vb vc which types₀ left₀ elements types left = Walk (laneRegister (productAt exc) va vb vc) which 64 (lanes elements₀ 0) left (lanes elements types)
+
+abbrev μ-loop : tie.MeasureT-loop
+μ-loop elements₀ exc va vb vc which types₀ left₀ elements types left = left
+
+loop-holds : tie.Need-loop-holds Inv-loop μ-loop
+loop-holds c = search (starts-walk, needs)
+
+lowest-requires : tie.Need-lowest-requires Inv-loop μ-loop
+lowest-requires c κs = search needs
+
+element-of-requires : tie.Need-element-of-requires Inv-loop μ-loop
+element-of-requires c κs = let b = index-below _ _ _ _ _ _ (c .before .before .before .loop .inv) (omega arith) (c .before .before .before .loop .inv .small) _ (c .before .lowest .ensures) in search needs
+
+product-requires : tie.Need-product-requires Inv-loop μ-loop
+product-requires c κs = let b = index-below _ _ _ _ _ _ (c .before .before .before .before .before .loop .inv) (omega arith) (c .before .before .before .before .before .loop .inv .small) _ (c .before .before .before .lowest .ensures) in search needs
+
+without-lowest-requires : tie.Need-without-lowest-requires Inv-loop μ-loop
+without-lowest-requires c κs = search needs
+
+loop-less : tie.Need-loop-less Inv-loop μ-loop
+loop-less c = less-left _ _ _ _ _ _ (c .before .before .before .before .before .before .before .loop .inv) (omega arith) (c .before .before .before .before .before .before .before .loop .inv .small) _ (c .before .before .before .before .before .lowest .ensures) _ (c .without-lowest .ensures)
+
+loop-again : tie.Need-loop-again Inv-loop μ-loop
+loop-again c = turns-walk _ _ _ _ _ _ (c .before .before .before .before .before .before .before .loop .inv) (omega arith) (c .before .before .before .before .before .before .before .loop .inv .small) _ (c .before .before .before .before .before .lowest .ensures) _ (c .without-lowest .ensures) _ (of-register _ _ _ _ _ _ _ _ (c .before .before .before .element-of .ensures) (c .before .product .ensures))
+
+returns : tie.Need-returns Inv-loop μ-loop
+returns c = ends-walk _ _ _ _ _ _ (c .before .loop .inv) (c .loop-test .left)
+
+pub register-products-spec : {M : Type 1} → statement M
+register-products-spec =
+    tie.close
+    (tie.spec
+    Inv-loop
+    μ-loop
+    loop-holds
+    lowest-requires
+    element-of-requires
+    product-requires
+    without-lowest-requires
+    loop-less
+    loop-again
+    returns)
