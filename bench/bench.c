@@ -103,6 +103,7 @@ struct side {
 
 static struct side sides[2];
 static uint64_t masks[STATES]; /* VMR as each state starts */
+static int vlr = 64;
 
 static bool same_leftovers(void)
 {
@@ -121,7 +122,7 @@ static void fill(uint64_t (*operand)(void), bool offsets)
     for (int s = 0; s < STATES; s++) {
         for (int k = 0; k < KUJ_ELEMENTS; k++)
             sides[0].elements[s][k] = offsets && k / 64 / 2 == 3 ? offset() : operand();
-        sides[0].control[s][KUJ_VLR] = 64;
+        sides[0].control[s][KUJ_VLR] = (uint64_t)vlr;
         sides[0].control[s][KUJ_VMR] = masks[s] = random_bits();
         sides[0].control[s][KUJ_VCR] = 0;
         sides[0].control[s][KUJ_VAER] = 0;
@@ -186,7 +187,7 @@ static inline uint64_t call_run_order(struct side *side, int k)
     int s = k % STATES;
     uint32_t number = side->calls->run_order(side->elements[s], side->control[s], queue.opcodes, QUEUE,
                                              queue.cntrls, QUEUE, queue.scalars, QUEUE,
-                                             orders[k / STATES], STEPS, &side->beside);
+                                             orders[k / STATES], (size_t)(QUEUE * vlr), &side->beside);
     return answer(number, side->beside);
 }
 
@@ -534,8 +535,8 @@ static bool binds(int q, int p)
 static void random_order(uint64_t order[STEPS])
 {
     bool come[STEPS] = { false };
-    for (int k = 0; k < STEPS;) {
-        int step = (int)below(STEPS), p = step / 64, i = step % 64;
+    for (int k = 0; k < QUEUE * vlr;) {
+        int p = (int)below(QUEUE), i = (int)below((uint64_t)vlr), step = p * 64 + i;
         bool ready = !come[step];
         for (int q = 0; q < p && ready; q++)
             ready = come[q * 64 + i] || !binds(q, p);
@@ -552,12 +553,12 @@ static void random_orders(void)
         random_order(orders[o]);
 }
 
-static char list_lines[12][160]; /* what a list costs beside the straight run of the same queue */
+static char list_lines[16][160]; /* what a list costs beside the straight run of the same queue */
 static int list_rows;
 
 static void by_list(const char *work, int n, const double straight[2])
 {
-    row(work, "entry", passes_run_order, call_run_order, n, STEPS, 0, 0);
+    row(work, "entry", passes_run_order, call_run_order, n, QUEUE * vlr, 0, 0);
     snprintf(list_lines[list_rows++], sizeof list_lines[0], "| %s | %.2f | %.2f |", work,
              last_row[0] / straight[0], last_row[1] / straight[1]);
 }
@@ -566,14 +567,17 @@ static void by_list(const char *work, int n, const double straight[2])
 static const struct {
     const struct instruction *instructions;
     uint64_t (*operand)(void);
-    const char *straight, *lists[3];
+    const char *straight, *lists[3], *short_lists[2];
 } queues_timed[] = {
     { exclusive_ors, any, "16 exclusive ors",
-      { "exclusive ors, queue order", "exclusive ors, element after element", "exclusive ors, random order" } },
+      { "exclusive ors, queue order", "exclusive ors, element after element", "exclusive ors, random order" },
+      { "exclusive ors, random order at VLR 2", "exclusive ors, random order at VLR 3" } },
     { whole_numbers, longword, "16 integer instructions",
-      { "integer, queue order", "integer, element after element", "integer, random order" } },
+      { "integer, queue order", "integer, element after element", "integer, random order" },
+      { "integer, random order at VLR 2", "integer, random order at VLR 3" } },
     { heat_steps, ordinary, "16 mixed instructions",
-      { "mixed, queue order", "mixed, element after element", "mixed, random order" } },
+      { "mixed, queue order", "mixed, element after element", "mixed, random order" },
+      { "mixed, random order at VLR 2", "mixed, random order at VLR 3" } },
 };
 enum { TIMED = sizeof queues_timed / sizeof queues_timed[0] };
 
@@ -609,6 +613,21 @@ static void queues(void)
         by_list(queues_timed[q].lists[2], ORDERS * STATES, straight[q]);
     }
     end("entry");
+
+    /* VLR 2, the greatest at which a list is walked, and 3. No group has these rows. */
+    begin("short queue");
+    for (vlr = 2; vlr <= 3; vlr++)
+        for (int q = 0; q < TIMED; q++) {
+            double short_straight[2];
+            use_queue(q);
+            row(queues_timed[q].straight, "element", passes_run, call_run, STATES, QUEUE * vlr, 0, 0);
+            short_straight[0] = last_row[0], short_straight[1] = last_row[1];
+            random_orders();
+            by_list(queues_timed[q].short_lists[vlr - 2], ORDERS * STATES, short_straight);
+        }
+    vlr = 64;
+    use_queue(1);
+    random_orders();
 
     /* The last entry is a repeat; then the second is one too. Beside 9 stands its position. */
     begin("list refused late");
