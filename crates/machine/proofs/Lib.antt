@@ -8,3 +8,4 @@ pub mod Values
 pub mod IotaLaws
 pub mod IotaExample
 pub mod IotaTouches
+pub mod Ranged

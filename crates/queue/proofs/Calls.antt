@@ -58,6 +58,10 @@ pub fine-accepted : (c : Control) (q : Queue) → fine (acceptance c q) ≡ true
 unfolding acceptance
 fine-accepted c q = accepted c q (pick (enabled c) (positions q (size q)) disabled)
 
+pub fine-in-range : (c : Control) (q : Queue) → fine (acceptance c q) ≡ true → inRange c ≡ true
+unfolding acceptance
+fine-in-range c q e = passed (inRange c) _ outOfRange refl e .0
+
 module _ (q : Queue) (l : List ℕ) (c : Control) (r : Reply) (asked : replyAnswer r ≡ acceptance c q) where
   pub reply-accepted : fine (replyAnswer r) ≡ true → Accepted c q
   reply-accepted f = fine-accepted c q (sym (ap fine asked) ∙ f)

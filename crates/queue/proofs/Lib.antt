@@ -29,3 +29,4 @@ pub mod Noting
 pub mod Verdicts
 pub mod Preparing
 pub mod DemandThree
+pub mod Again
