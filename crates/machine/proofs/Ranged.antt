@@ -2,7 +2,7 @@
 -- Assumes nothing.
 use mathlib.Core.Path.{_≡_, refl, ap, _∙_}
 use mathlib.Core.Bool.{Bool, true, false}
-use Prim.Native.Nat.{ℕ, zero, suc, _%_, _<_, _≤_}
+use Prim.Native.Nat.{ℕ, zero, suc, _%_, _<_}
 use native.Mathlib.Omega.{arith}
 use lib.Dec.{eqb}
 use lib.Bits.{bitOr}
@@ -16,7 +16,7 @@ use Rattle.machine.specs.declared.Progress.{Progress}
 use Rattle.machine.specs.Kind.{kindOf, isCompare, isIota}
 use Rattle.machine.specs.Run.{Run, withVpsr, gathered, ended}
 use Rattle.machine.specs.Step.{operated, received, registerBit, notes, written, worked, elementStep}
-use Rattle.machine.specs.Iota.{matching, iotaStep}
+use Rattle.machine.specs.Iota.{iotaStep}
 use Rattle.machine.specs.Instruction.{stepOf, stepsBelow, stepCount, wholeOf}
 use Rattle.machine.proofs.IotaLaws.{matching-le}
 

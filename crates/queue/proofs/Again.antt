@@ -1,11 +1,10 @@
 -- Document 01, "Queues and orders": "So after an exception a second call gets 3." A run leaves a state in range, and one that recorded something leaves the processor
 -- disabled, by a list too, which ends in the same state. Assumes nothing.
-use mathlib.Core.Path.{_≡_, refl, ap, _∙_}
-use mathlib.Core.Bool.{Bool, true, false}
+use mathlib.Core.Path.{_≡_, _∙_}
+use mathlib.Core.Bool.{true}
 use Prim.Native.Nat.{ℕ, zero, suc}
-use Rattle.numbers.specs.Choice.{pick}
 use Rattle.numbers.proofs.Tests.{pick-true, pick-false}
-use Rattle.state.specs.Answer.{Answer, queueRefused, disabled, outOfRange}
+use Rattle.state.specs.Answer.{queueRefused, disabled, outOfRange}
 use Rattle.state.specs.State.{State, inRange, enabled}
 use Rattle.state.proofs.Ranges.{ranged, in-range}
 use Rattle.machine.specs.Run.{Run, begun}
