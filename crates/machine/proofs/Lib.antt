@@ -3,6 +3,7 @@ pub mod Gather
 pub mod Chosen
 pub mod WorkKinds
 pub mod LaneLoops
+pub mod Recording
 pub mod Compares
 pub mod Values
 pub mod IotaLaws

@@ -9,10 +9,11 @@ use numbers::bits;
 use opcodes::Instruction;
 ghost use mathlib.Core.Path.{_≡_};
 ghost use Prim.Native.Nat.{_<_, _≤_, _-_, _^_};
+ghost use Rattle.numbers.specs.Choice.{pick};
 ghost use Rattle.numbers.specs.Bits.{lowBits};
 ghost use Rattle.numbers.specs.Rising.{rising, ofOnes};
 ghost use Rattle.opcodes.specs.WorkNumbers.{workNumber};
-ghost use mathlib.Core.Bool.{false};
+ghost use mathlib.Core.Bool.{true, false};
 ghost use Rattle.machine.specs.Kind.{kindOf, isCompare};
 ghost use Rattle.machine.specs.Loops.{lanes, landed, laneWorked, laneRegister, laneStep, oneAt, shortAt, totalAt, productAt, convertAt, workAt};
 
@@ -25,12 +26,11 @@ fn land(elements: &mut [u64; 1024], types: u64, o: Out, vc: usize, i: usize) -> 
     types | o.types
 }
 
-// A short work of one element.
+// A short work of one element, which records as with EXC.
 fn short(
     elements: &mut [u64; 1024],
     types: u64,
     code: u8,
-    exc: bool,
     matches: bool,
     a: u64,
     vb: usize,
@@ -38,17 +38,24 @@ fn short(
     i: usize,
 ) -> u64
     requires { ⌜ (vb < 16) × (vc < 16) × (i < 64) ⌝ }
-    ensures { λ r. ⌜ lanes (now (elements .exit)) r ≡ laneWorked (oneAt code exc matches) a vb vc i (lanes (now (elements .entry)) types) ⌝ }
+    ensures { λ r. ⌜ lanes (now (elements .exit)) r ≡ laneWorked (oneAt code true matches) a vb vc i (lanes (now (elements .entry)) types) ⌝ }
 {
     let b = operand::element_of(&*elements, vb, i);
     let c = operand::element_of(&*elements, vc, i);
     land(
         elements,
         types,
-        element::short(code, exc, matches, a, b, c),
+        element::short(code, true, matches, a, b, c),
         vc,
         i,
     )
+}
+
+// Integer overflow is recorded only with EXC, which is looked at once, after a loop.
+fn gated(exc: bool, types: u64) -> u64
+    ensures { λ r. ⌜ r ≡ pick exc types 0 ⌝ }
+{
+    if exc { types } else { 0 }
 }
 
 // A short work of every element below n. The mask is halved at each, since vector code has no shift by another number for each element.
@@ -72,21 +79,11 @@ fn every(
     let mut i: usize = 0;
     while i < n {
         let a = operand::first(&*elements, scalar, x, va, i);
-        types = short(
-            &mut *elements,
-            types,
-            code,
-            exc,
-            left % 2 == 1,
-            a,
-            vb,
-            vc,
-            i,
-        );
+        types = short(&mut *elements, types, code, left % 2 == 1, a, vb, vc, i);
         left = left / 2;
         i += 1;
     }
-    types
+    gated(exc, types)
 }
 
 // A short work of the elements of a set.
@@ -114,7 +111,6 @@ fn chosen(
             &mut *elements,
             types,
             code,
-            exc,
             (mask >> i) % 2 == 1,
             a,
             vb,
@@ -123,7 +119,7 @@ fn chosen(
         );
         left = bits::without_lowest(left);
     }
-    types
+    gated(exc, types)
 }
 
 // The sums of a scalar and the elements of a set, or the differences. The loop itself tells rare operands from others: a function of one element with both

@@ -1,15 +1,17 @@
 use borrow.Author.Needs.{needs}
 use mathlib.Core.Path.{_≡_}
+use mathlib.Core.Bool.{true}
 use Prim.Native.Nat.{_≤_, _-_, _/_, _^_}
 use Rattle.numbers.specs.Rising.{rising}
 use Rattle.numbers.proofs.Rising.{turns, ends}
 use Rattle.machine.specs.Loops.{lanes, laneStep, shortAt}
 use Rattle.machine.proofs.LaneLoops.{short-works, unhalved, its-bit, halved}
+use Rattle.machine.proofs.Recording.{gated-all}
 use Rattle.machine.proofs.lanes.every.Statement.{statement}
 use Rattle.machine.proofs.lanes.every.Tie as tie
 
 abbrev Inv-loop : tie.InvT-loop
-Inv-loop elements₀ code exc mask scalar x va vb vc n types₀ left₀ i₀ elements types left i = (i ≤ n) × (left ≡ mask / 2 ^ i) × (lanes elements types ≡ rising (laneStep (shortAt code exc mask) scalar x va vb vc) i (lanes elements₀ 0))
+Inv-loop elements₀ code exc mask scalar x va vb vc n types₀ left₀ i₀ elements types left i = (i ≤ n) × (left ≡ mask / 2 ^ i) × (lanes elements types ≡ rising (laneStep (shortAt code true mask) scalar x va vb vc) i (lanes elements₀ 0))
 
 abbrev μ-loop : tie.MeasureT-loop
 μ-loop elements₀ code exc mask scalar x va vb vc n types₀ left₀ i₀ elements types left i = n - i
@@ -37,8 +39,13 @@ loop-again c = (
   turns _ _ _ _ _ (c .before .before .before .before .before .loop .inv .2) (short-works _ _ _ _ _ _ _ _ _ _ _ _ _ (its-bit _ _ _ (c .before .before .before .before .before .loop .inv .1)) (c .before .before .first .ensures) (c .short .ensures)),
 )
 
+gated-requires : tie.Need-gated-requires Inv-loop μ-loop
+gated-requires c κs = search needs
+
 returns : tie.Need-returns Inv-loop μ-loop
-returns c = search (ends, needs)
+returns c =
+    let at = c .before .before in let a = at .before .args in
+    gated-all (a .code) (a .mask) (a .scalar) (a .x) (a .va) (a .vb) (a .vc) (a .exc) (a .elements .now) _ _ _ (c .gated .ensures) (a .n) (ends _ _ _ _ _ (at .loop .inv .0) (c .before .loop-test .left) (at .loop .inv .2))
 
 pub every-spec : {M : Type 1} → statement M
 every-spec =
@@ -52,4 +59,5 @@ every-spec =
     add-i
     loop-less
     loop-again
+    gated-requires
     returns)
