@@ -2,7 +2,7 @@
 use mathlib.Core.Bool.{Bool, true, false, not, _&&_}
 use mathlib.Core.Path.{_≡_, refl, sym, ap, ap₂, _∙_}
 use mathlib.Core.List.{List, [], _∷_}
-use Prim.Native.Nat.{ℕ, _+_, _^_, _≤_, _<_}
+use Prim.Native.Nat.{ℕ, _+_, _%_, _^_, _≤_, _<_}
 use lib.ListN.{length, getD}
 use borrow.Author.Tests.{not-true, not-false, le-ltb}
 use Rattle.numbers.specs.Bits.{bit, OnesBelow}
@@ -19,7 +19,8 @@ use denote.Enum.Declared.{tagOf}
 use Rattle.memory.proofs.Access.{the-type}
 use Rattle.numbers.proofs.Rising.{cut}
 use Rattle.memory.proofs.Testing.{or-done, all-within}
-use Rattle.memory.proofs.Windows.{ends-within}
+use Rattle.memory.proofs.Windows.{ends-within, origin-straight}
+use Rattle.memory.proofs.Relative.{addresses-from, relative}
 
 -- elements that are chosen alike, none of them from n on, and have like addresses below n
 module _ (n m : ℕ) (short : n ≤ m) (chosen chosen′ : ℕ → Bool) (address address′ : ℕ → ℕ)
@@ -82,19 +83,21 @@ module _ (s : State) (ins : Instruction) (base stride : ℕ) (w : List ℕ) (ori
     pub ends-in-time : origin + length w ≤ 2 ^ 32
     ends-in-time = ends-within (length w) origin (sym said ∙ not-false fit passed)
 
-    -- `a` are the addresses that were worked out, and `which` the elements that are operated on
-    pub done : (a : List ℕ) → ((i : ℕ) → i < s .control .vlr → getD a i 0 ≡ addressOf ins base stride (s .elements) i)
+    -- `a` are the addresses that were worked out, from a base that is taken from the origin, and `which` the elements that are operated on
+    pub done : (start : ℕ) → (start + origin % 2 ^ 32) % 2 ^ 32 ≡ base → (a : List ℕ) → ((i : ℕ) → i < s .control .vlr → getD a i 0 ≡ addressOf ins start stride (s .elements) i)
         → s .control .vlr ≤ 64 → (which : ℕ) → OnesBelow (s .control .vlr) (chosenBy (ins .moe) (ins .mtf) (s .control .vmr)) which
         → (store quadword : Bool) → store ≡ isStore (ins .work) → quadword ≡ isQuadword (ins .work)
         → (m : Moved)
-        → m ≡ movedBy store quadword origin (ins .vc .0) (bit which) (λ (k : ℕ). getD a k 0) 64 (s .elements) w
+        → m ≡ movedBy store quadword 0 (ins .vc .0) (bit which) (λ (k : ℕ). getD a k 0) 64 (s .elements) w
         → m ≡ movedOf s ins base stride w origin
     unfolding movedOf
-    done a filled short which chosen store quadword es eq m e =
+    done start begins a filled short which chosen store quadword es eq m e =
         let g : allowed (length w) origin ≡ true = sym said ∙ not-false fit passed in
         let k = like (s .control .vlr) 64 short (bit which) (operated ins (s .control))
-        (λ (k : ℕ). getD a k 0) (addressOf ins base stride (s .elements))
+        (λ (k : ℕ). getD a k 0) (addressOf ins start stride (s .elements))
         (chosen .ones)
         (λ i h. ap (λ (b : Bool). b && chosenBy (ins .moe) (ins .mtf) (s .control .vmr) i) (le-ltb i (s .control .vlr) h))
-        filled store quadword origin (ins .vc .0) (s .elements) w in
-        rw (g, ← es, ← eq) (e ∙ k)
+        filled store quadword 0 (ins .vc .0) (s .elements) w in
+        let r = relative store quadword origin (ins .vc .0) (operated ins (s .control)) (addressOf ins base stride (s .elements)) (addressOf ins start stride (s .elements)) (s .control .vlr) (s .elements) w
+        (origin-straight (length w) origin g) ends-in-time (λ i. addresses-from origin base start begins (ins .scalar) stride (s .elements) (ins .vb .0) i) in
+        rw (g, ← es, ← eq) (e ∙ k ∙ r)

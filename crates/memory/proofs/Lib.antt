@@ -2,6 +2,7 @@
 pub mod Windows
 pub mod Filling
 pub mod Testing
+pub mod Relative
 pub mod Moving
 pub mod Accessing
 pub mod Gathering

@@ -6,13 +6,13 @@ use Prim.Native.Nat.{ℕ, _+_, _-_, _%_, _^_, _≤_, _<_}
 use native.Mathlib.Omega.{arith}
 use lib.Dec.{leb, eqb}
 use lib.ListN.{length}
-use borrow.Author.Tests.{le-leb, lt-leb, leb-true, leb-false}
+use borrow.Author.Tests.{le-leb, lt-leb, leb-true, leb-false, eqb-true}
 use borrow.Rule.Slice.PartMut.{putMid}
 use Rattle.numbers.specs.Bytes.{bytesOf}
 use Rattle.numbers.specs.Over.{over}
 use Rattle.numbers.proofs.LittleEndian.{bytes-length}
 use Rattle.numbers.proofs.Over.{part-over}
-use Rattle.numbers.proofs.Tests.{and-right}
+use Rattle.numbers.proofs.Tests.{and-left, and-right}
 use Rattle.memory.specs.Window.{allowed, putAt}
 
 -- the number of bytes is tested first, so that the difference is one
@@ -34,6 +34,12 @@ allows bytes origin h =
 pub ends-within : (bytes origin : ℕ) → allowed bytes origin ≡ true → origin + bytes ≤ 2 ^ 32
 unfolding allowed
 ends-within bytes origin e = leb-true (origin + bytes) (2 ^ 32) (and-right (leb bytes 65536 && eqb (origin % 8) 0) _ e)
+
+-- and begins at a multiple of 8
+pub origin-straight : (bytes origin : ℕ) → allowed bytes origin ≡ true → origin % 8 ≡ 0
+unfolding allowed
+origin-straight bytes origin e =
+    eqb-true (origin % 8) 0 (and-right (leb bytes 65536) (eqb (origin % 8) 0) (and-left (leb bytes 65536 && eqb (origin % 8) 0) (leb (origin + bytes) (2 ^ 32)) e))
 
 -- a part of size bytes that was lent and came back as a number's bytes
 pub put : (size : ℕ) (w part : List ℕ) (offset v : ℕ) → part ≡ bytesOf size v → putMid offset (offset + size - offset) w part ≡ putAt size w offset v

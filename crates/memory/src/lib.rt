@@ -87,12 +87,14 @@ pub fn transfer(
         control.vmr,
         control.vlr,
     );
+    // From here on the window stands at 0: its origin is taken from the base once, and not from each address.
+    let start = std::num::wrapping_sub_u32(base, (origin % 4294967296) as u32);
     let mut addresses = [0u32; 64];
     addresses::of_elements(
         &mut addresses,
         elements,
         instruction.scalar,
-        base,
+        start,
         stride,
         instruction.vb.0 as usize,
         n,
@@ -104,7 +106,7 @@ pub fn transfer(
         works::is_store(work),
         which,
         works::is_quadword(work),
-        origin,
+        0,
         instruction.vc.0 as usize,
         n,
     )

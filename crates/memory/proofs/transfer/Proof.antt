@@ -1,6 +1,7 @@
 -- `transfer` meets its contract. Assumes nothing.
 use Rattle.state.specs.State.{state}
 use Rattle.memory.proofs.Accessing.{refused, ends-in-time, done}
+use native.Mathlib.Omega.{arith}
 use borrow.Author.Needs.{needs}
 use Rattle.memory.proofs.transfer.Statement.{statement}
 use Rattle.memory.proofs.transfer.Tie as tie
@@ -16,6 +17,12 @@ returns c =
 
 chosen-below-requires : tie.Need-chosen-below-requires
 chosen-below-requires c κs = search needs
+
+cast-wrapping-sub-u32 : tie.Need-cast-wrapping-sub-u32
+cast-wrapping-sub-u32 c = search needs
+
+wrapping-sub-u32-requires : tie.Need-wrapping-sub-u32-requires
+wrapping-sub-u32-requires c κs = search needs
 
 cast-of-elements : tie.Need-cast-of-elements
 cast-of-elements c = search needs
@@ -33,16 +40,21 @@ cast-all-or-none : tie.Need-cast-all-or-none
 cast-all-or-none c = search needs
 
 all-or-none-requires : tie.Need-all-or-none-requires
-all-or-none-requires c κs = (search needs, search needs, c .before .before .before .before .before .before .before .before .before .before .chosen-below .ensures .small, search (ends-in-time, needs))
+all-or-none-requires c κs =
+    let t = c .before .before .before .before .before .before .before .before .before .before .before in let e = t .before in let v = e .before in let a = v .before .before .args in
+    let h = ends-in-time (state (a .elements .now) (a .control)) (a .instruction) (a .base) (a .stride) (a .window .now) (a .origin) _ (v .allowed .ensures) (e .if1 .left) in
+    (search needs, search needs, t .chosen-below .ensures .small, omega (arith, h))
 
 same-length : tie.Need-same-length
 same-length c = search needs
 
 returns-2 : tie.Need-returns-2
 returns-2 c =
-    let args = c .before .before .before .before .before .before .before .before .before .before .before .before .before .before .before .before .before .args in
-    done (state (args .elements .now) (args .control)) (args .instruction) (args .base) (args .stride) (args .window .now) (args .origin) _ (c .before .before .before .before .before .before .before .before .before .before .before .before .before .before .before .allowed .ensures)
-    (c .before .before .before .before .before .before .before .before .before .before .before .before .before .before .if1 .left) (c .before .before .before .before .before .before .before .before .before .of-elements .last .0) (c .before .before .before .before .before .before .before .before .before .of-elements .ensures) (c .before .before .before .before .before .before .before .before .before .before .before .before .before .before .before .before .before .pre .2) _ (c .before .before .before .before .before .before .before .before .before .before .before .before .before .chosen-below .ensures) _ _ (c .before .before .before .before .before .is-store .ensures) (c .before .before .before .before .is-quadword .ensures) _ (c .before .before .all-or-none .ensures)
+    let m = c .before .before in let q = m .before .before in let o = q .before .before .before .before .before in let u = o .before .before .before .before in
+    let t = u .before in let e = t .before in let v = e .before in let s = v .before .before in let args = s .args in
+    done (state (args .elements .now) (args .control)) (args .instruction) (args .base) (args .stride) (args .window .now) (args .origin) _ (v .allowed .ensures) (e .if1 .left)
+    (u .wrapping-sub-u32 .result) (u .wrapping-sub-u32 .ensures)
+    (o .of-elements .last .0) (o .of-elements .ensures) (s .pre .2) _ (t .chosen-below .ensures) _ _ (q .before .is-store .ensures) (q .is-quadword .ensures) _ (m .all-or-none .ensures)
 
 pub transfer-spec : {M : Type 1} → statement M
 transfer-spec =
@@ -51,6 +63,8 @@ transfer-spec =
     allowed-requires
     returns
     chosen-below-requires
+    cast-wrapping-sub-u32
+    wrapping-sub-u32-requires
     cast-of-elements
     of-elements-requires
     is-store-requires
