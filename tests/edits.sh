@@ -1,7 +1,7 @@
 #!/bin/sh
-# A must-fail edit that only made a proof file unfit for the code shows nothing. Its log tells: a need cannot be named, or the first
-# error is that a need or a field of the proof is not there, or that a need is of another type. A proof that failed goes with errors
-# in those that use it, so that beyond needs without a name only the first counts.
+# A must-fail edit that only made a proof file unfit for the code shows nothing. Its log tells: somewhere a need cannot be named, or the
+# first error is that a field is not there or that something is not of a need's type. Later errors of those two kinds may follow from a
+# false fact.
 set -eu
 cd "$(dirname "$0")/.."
 bad=
