@@ -5,7 +5,8 @@
 //! Each call is put `cases` times (20,000 if not said; lists a quarter as often). Number, what stands
 //! beside it, all elements, all controls and all memory are compared, guard bytes around every lent
 //! slice too. A queue that is done is put once more, to what it left. The exit status is 1 if anything
-//! differed, or if some number that a call can give, or some kind of list, never came up.
+//! differed, or if some number that a call can give, some accepted opcode done, or some kind of list, never
+//! came up.
 
 use independent::generate::*;
 use independent::machine::*;
@@ -148,6 +149,8 @@ fn answer<T>(result: &Result<T, Refusal>, done: impl Fn(&T) -> u64) -> Answer {
 struct Report {
     /// How often each call gave each number.
     numbers: BTreeMap<&'static str, BTreeMap<u32, u64>>,
+    /// How often each opcode was done by `execute`.
+    done: BTreeMap<u8, u64>,
     /// How often each kind of list came up.
     lists: BTreeMap<&'static str, u64>,
     differences: u64,
@@ -215,6 +218,9 @@ fn compare_execute(random: &mut Random, cases: u64, report: &mut Report) {
         };
         let (after, window_after) = expected.as_ref().map_or((&state, &memory.window), |(s, w)| (s, w));
         let rest_same = lent.is_now(after) && window.is_now(window_after);
+        if number == 0 {
+            *report.done.entry(opcode).or_default() += 1;
+        }
         report.case("execute", (number, lent.beside), answer(&expected, |_| 0), rest_same, || {
             format!(
                 "{instruction:X?} base {:X} stride {:X} origin {:X} length {}; {}",
@@ -359,7 +365,10 @@ fn compare_run_order(random: &mut Random, cases: u64, report: &mut Report) {
                 format!("{queue:X?} list of {}; {}", order.len(), controls_text(&state))
             });
             if call == 0 && accepted {
-                *report.lists.entry(kind_of_list(&state, expected.as_ref().map_err(|_| ()), order.len())).or_default() += 1;
+                *report
+                    .lists
+                    .entry(kind_of_list(&state, expected.as_ref().map_err(|_| ()), order.len()))
+                    .or_default() += 1;
             }
             let Ok(after) = expected else { break };
             state = after;
@@ -521,23 +530,46 @@ fn numbers_of(call: &str) -> &'static [u32] {
     }
 }
 
-/// The outside vectors through `kuj_execute`: V1[0] and V2[0] in, V3[0] or VMR<0> out.
-struct Executed;
+/// The outside vectors through `kuj_execute`: V1[0], or the scalar, and V2[0] in, V3[0] or VMR<0> out.
+struct Executed {
+    scalar: bool,
+}
+
+impl Executed {
+    /// Conversions have no form with a scalar.
+    fn tables<'a>(&self, tables: &[&'a str]) -> Vec<&'a str> {
+        tables.iter().copied().filter(|table| !(self.scalar && table.starts_with("CVT"))).collect()
+    }
+}
 
 impl Arithmetic for Executed {
     fn work(&self, table: &str, a: u32, b: u32, exc: bool, relation: u32) -> Result32 {
-        let (opcode, va) = instruction_of(table);
+        let (vector_opcode, va) = instruction_of(table);
+        // With a scalar, V1[0] is not what is wanted.
+        let (opcode, scalar, first) = if self.scalar { (vector_opcode | 1, a, !a) } else { (vector_opcode, 0, a) };
         let compare = table.starts_with("CMP");
         let vc = if compare { relation as u16 } else { 3 };
         let cntrl = u16::from(exc) << 13 | va << 8 | 2 << 4 | vc;
         let mut elements = vec![0u64; 1024];
-        elements[64] = a.into();
+        elements[64] = first.into();
         elements[128] = b.into();
         let mut control = [1u64, 0, 0, 0, 1];
         let (mut beside, mut window) = (0u64, [0u8; 1]);
         // SAFETY: 1,024 elements, 5 control numbers, an empty window, one number beside.
         let number = unsafe {
-            kuj_execute(elements.as_mut_ptr(), control.as_mut_ptr(), opcode, cntrl, 0, 0, 0, window.as_mut_ptr(), 0, 0, &mut beside)
+            kuj_execute(
+                elements.as_mut_ptr(),
+                control.as_mut_ptr(),
+                opcode,
+                cntrl,
+                scalar.into(),
+                0,
+                0,
+                window.as_mut_ptr(),
+                0,
+                0,
+                &mut beside,
+            )
         };
         assert_eq!((number, beside), (0, 0), "{table} is accepted");
         let value = if compare { control[1] as u32 } else { elements[192] as u32 };
@@ -556,7 +588,19 @@ fn compare_acceptance(report: &mut Report) {
             let mut beside = 99u64;
             // SAFETY: as above.
             let number = unsafe {
-                kuj_execute(elements.as_mut_ptr(), control.as_mut_ptr(), opcode, cntrl, 0, 0, 0, window.as_mut_ptr(), 0, 0, &mut beside)
+                kuj_execute(
+                    elements.as_mut_ptr(),
+                    control.as_mut_ptr(),
+                    opcode,
+                    cntrl,
+                    0,
+                    0,
+                    0,
+                    window.as_mut_ptr(),
+                    0,
+                    0,
+                    &mut beside,
+                )
             };
             let instruction = Instruction { opcode, control_word: cntrl, scalar: 0 };
             let expected = match work_of(opcode) {
@@ -590,13 +634,21 @@ fn main() -> ExitCode {
     compare_files(&mut random, cases.div_ceil(4), &mut report);
     compare_readings(&mut random, cases, &mut report);
     compare_acceptance(&mut report);
-    for tables in [&F_TABLES[..], &L_TABLES[..]] {
-        let found = check(&directory(), tables, &Executed).expect("the outside vectors can be read");
-        for difference in found.differences.iter().take(20) {
-            println!("DIFFERS: {difference}");
+    for (form, executed) in [("registers", Executed { scalar: false }), ("a scalar", Executed { scalar: true })] {
+        for tables in [&F_TABLES[..], &L_TABLES[..]] {
+            let found =
+                check(&directory(), &executed.tables(tables), &executed).expect("the outside vectors can be read");
+            for difference in found.differences.iter().take(20) {
+                println!("DIFFERS: with {form}: {difference}");
+            }
+            println!(
+                "outside vectors with {form}: {} rows, {} rows of the known difference, {} differ",
+                found.rows,
+                found.known,
+                found.differences.len()
+            );
+            report.differences += found.differences.len() as u64;
         }
-        println!("outside vectors: {} rows, {} rows of the known difference, {} differ", found.rows, found.known, found.differences.len());
-        report.differences += found.differences.len() as u64;
     }
 
     let mut missing = 0;
@@ -609,6 +661,13 @@ fn main() -> ExitCode {
                 missing += 1;
             }
         }
+    }
+    let accepted = [accepted_opcodes(false), accepted_opcodes(true)].concat();
+    let done: Vec<u64> = accepted.iter().map(|opcode| report.done.get(opcode).copied().unwrap_or(0)).collect();
+    println!("accepted opcodes: {}, each done {} times or more", accepted.len(), done.iter().min().unwrap());
+    for (opcode, _) in accepted.iter().zip(&done).filter(|(_, &count)| count == 0) {
+        println!("execute never did opcode {opcode:02X}");
+        missing += 1;
     }
     for kind in KINDS_OF_LISTS {
         let count = report.lists.get(kind).copied().unwrap_or(0);

@@ -58,7 +58,7 @@ fn gated(exc: bool, types: u64) -> u64
     if exc { types } else { 0 }
 }
 
-// A short work of every element below n. The mask is halved at each, since vector code has no shift by another number for each element.
+// A short work of every element below n. Merge alone looks at the mask: each turn takes its lowest bit and halves the rest.
 fn every(
     elements: &mut [u64; 1024],
     code: u8,

@@ -2,8 +2,8 @@
 ghost use mathlib.Core.Path.{_≡_};
 ghost use Rattle.numbers.specs.Relation.{relationHolds};
 
-// The relation holds, where the left is less, and where both are equal. No branch: in a loop over
-// elements all that depends on the relation alone is worked out once.
+// The relation holds, where the left is less, and where both are equal. No branch. Where the relation is a constant, as
+// in the longword compares' loop for each accepted one, nothing of the choice among relations is left in the loop.
 pub fn holds(relation: u64, less: bool, equal: bool) -> bool
     ensures { λ r. ⌜ r ≡ relationHolds relation less equal ⌝ }
 {
