@@ -1,11 +1,11 @@
 -- Laws of the tests. Assumes nothing.
 use mathlib.Core.Bool.{Bool, true, false, not, _&&_}
-use mathlib.Core.Path.{_≡_, refl, sym, ap, _∙_}
+use mathlib.Core.Path.{_≡_, refl, sym, ap, ap₂, _∙_}
 use mathlib.Core.Logic.{_⊎_, inl, inr, ⊎-elim}
 use Prim.Native.Nat.{ℕ, zero, suc, _+_, _-_, _%_, _^_, _≤_, _<_}
 use native.Mathlib.Omega.{arith}
 use lib.Dec.{ltb, leb, eqb}
-use borrow.Author.Tests.{ltb-true, le-leb, leb-true, not-true, not-false}
+use borrow.Author.Tests.{ltb-true, le-leb, leb-true}
 use Rattle.numbers.specs.Bits.{bit}
 use Rattle.numbers.specs.Choice.{pick}
 use Rattle.numbers.proofs.BitLaws.{bit-above}
@@ -108,25 +108,22 @@ module _ (size origin end : ℕ) (address : ℕ → ℕ) where
     bad i t (inr e) w = stops-walk _ _ _ _ _ _ w (λ j. rw e) ∙ tests-ones which 64
 
 -- the test of one element, by what its parts said
-module _ (size origin end address : ℕ) (straight : Bool) (said : straight ≡ eqb (address % size) 0) where
-  pub not-straight : not straight ≡ true → test.Misaligned ≡ testOf size origin end address
+module _ (size origin end address bytes : ℕ) (straight : Bool) (said : straight ≡ eqb (address % size) 0) (sized : bytes ≡ size) where
+  abbrev inside : Bool
+  inside = leb origin address && leb (address + bytes) end
+
+  tells : found straight inside ≡ testOf size origin end address
   unfolding testOf
-  not-straight e = let g : eqb (address % size) 0 ≡ false = sym said ∙ not-true straight e in rw g
+  tells = ap₂ found said (ap (λ (k : ℕ). leb origin address && leb (address + k) end) sized)
 
-  module _ (bytes : ℕ) (sized : bytes ≡ size) (e : not straight ≡ false) where
-    pub is-fine : (leb origin address && leb (address + bytes) end) ≡ true → test.Fine ≡ testOf size origin end address
-    unfolding testOf
-    is-fine f =
-        let g : eqb (address % size) 0 ≡ true = sym said ∙ not-false straight e in
-        let k : (leb origin address && leb (address + size) end) ≡ true = rw sized at f in
-        rw (g, k)
+  pub is-fine : (straight && inside) ≡ true → test.Fine ≡ testOf size origin end address
+  is-fine e = sym (ap₂ found (and-left straight inside e) (and-right straight inside e)) ∙ tells
 
-    pub is-outside : (leb origin address && leb (address + bytes) end) ≡ false → test.Outside ≡ testOf size origin end address
-    unfolding testOf
-    is-outside f =
-        let g : eqb (address % size) 0 ≡ true = sym said ∙ not-false straight e in
-        let k : (leb origin address && leb (address + size) end) ≡ false = rw sized at f in
-        rw (g, k)
+  pub is-outside : (straight && inside) ≡ false → straight ≡ true → test.Outside ≡ testOf size origin end address
+  is-outside e f = sym (ap₂ found f (sym (ap (λ (t : Bool). t && inside) f) ∙ e)) ∙ tells
+
+  pub is-misaligned : straight ≡ false → test.Misaligned ≡ testOf size origin end address
+  is-misaligned f = sym (ap (λ (t : Bool). found t inside) f) ∙ tells
 
 pub size-small : (quadword : Bool) (n : ℕ) → n ≡ sizeOf quadword → n ≤ 8
 size-small true n e = omega arith

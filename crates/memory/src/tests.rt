@@ -33,14 +33,16 @@ fn aligned(address: u32, quadword: bool) -> bool
 fn one(address: u32, quadword: bool, origin: u64, end: u64) -> Test
     ensures { λ r. ⌜ r ≡ testOf (sizeOf quadword) origin end address ⌝ }
 {
-    if !aligned(address, quadword) {
-        return Test::Misaligned;
-    }
+    let straight = aligned(address, quadword);
     let start = address as u64;
-    if (origin <= start) & (start + size(quadword) <= end) {
+    let inside = (origin <= start) & (start + size(quadword) <= end);
+    if straight & inside {
         return Test::Fine;
     }
-    Test::Outside
+    if straight {
+        return Test::Outside;
+    }
+    Test::Misaligned
 }
 
 // The lowest bad element of a set.
