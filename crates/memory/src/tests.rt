@@ -92,7 +92,7 @@ fn fine(address: u32, quadword: bool, origin: u64, bytes: u64) -> bool
     aligned(address, quadword) & (offset < room(bytes, quadword))
 }
 
-// All elements below n are fine, operated on or not.
+// All elements below n are fine.
 fn all_fine(addresses: &[u32; 64], quadword: bool, origin: u64, bytes: u64, n: usize) -> bool
     requires { ⌜ (n ≤ 64) × (origin + bytes ≤ 2 ^ 32) ⌝ }
     ensures { λ r. ⌜ (r ≡ true → (i : ℕ) → i < n → testOf (sizeOf quadword) origin (origin + bytes) (getD (now (addresses .entry)) i 0) ≡ Fine) ⌝ }
@@ -106,7 +106,26 @@ fn all_fine(addresses: &[u32; 64], quadword: bool, origin: u64, bytes: u64, n: u
     all
 }
 
-// The lowest bad element of a set of numbers below n. As a rule all are fine, which is told fast; else each of the set is looked at.
+// All elements below n are operated on, and fine. Where some are not operated on, none is looked at here.
+fn all_at_once(
+    addresses: &[u32; 64],
+    which: u64,
+    quadword: bool,
+    origin: u64,
+    bytes: u64,
+    n: usize,
+) -> bool
+    requires { ⌜ (n ≤ 64) × (origin + bytes ≤ 2 ^ 32) ⌝ }
+    ensures { λ r. ⌜ (r ≡ true → (i : ℕ) → i < n → testOf (sizeOf quadword) origin (origin + bytes) (getD (now (addresses .entry)) i 0) ≡ Fine) ⌝ }
+{
+    if which != numbers::bits::low_bits(18446744073709551615, n as u64) {
+        return false;
+    }
+    all_fine(addresses, quadword, origin, bytes, n)
+}
+
+// The lowest bad element of a set of numbers below n. As a rule all are operated on and fine, which is told fast; else each of the set is looked at, and no
+// other.
 pub(crate) fn tested(
     addresses: &[u32; 64],
     which: u64,
@@ -118,7 +137,7 @@ pub(crate) fn tested(
     requires { ⌜ (n ≤ 64) × (which < 2 ^ n) × (origin + bytes ≤ 2 ^ 32) ⌝ }
     ensures { λ r. ⌜ r ≡ testedOf (sizeOf quadword) origin (origin + bytes) (bit which) (λ i. getD (now (addresses .entry)) i 0) 64 ⌝ }
 {
-    if all_fine(addresses, quadword, origin, bytes, n) {
+    if all_at_once(addresses, which, quadword, origin, bytes, n) {
         return Access::Done;
     }
     search(addresses, which, quadword, origin, origin + bytes)

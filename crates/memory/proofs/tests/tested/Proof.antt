@@ -4,11 +4,11 @@ use borrow.Author.Needs.{needs}
 use Rattle.memory.proofs.tests.tested.Statement.{statement}
 use Rattle.memory.proofs.tests.tested.Tie as tie
 
-all-fine-requires : tie.Need-all-fine-requires
-all-fine-requires c κs = search needs
+all-at-once-requires : tie.Need-all-at-once-requires
+all-at-once-requires c κs = search needs
 
 returns : tie.Need-returns
-returns c = none-bad _ _ _ _ _ _ (c .before .before .pre .1) (c .before .all-fine .ensures (c .if1 .taken))
+returns c = none-bad _ _ _ _ _ _ (c .before .before .pre .1) (c .before .all-at-once .ensures (c .if1 .taken))
 
 add-search : tie.Need-add-search
 add-search c = search needs
@@ -20,4 +20,4 @@ returns-2 : tie.Need-returns-2
 returns-2 c = search needs
 
 pub tested-spec : {M : Type 1} → statement M
-tested-spec = tie.close (tie.spec all-fine-requires returns add-search search-requires returns-2)
+tested-spec = tie.close (tie.spec all-at-once-requires returns add-search search-requires returns-2)
