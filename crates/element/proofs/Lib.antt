@@ -1,3 +1,4 @@
 -- Laws of works.
 pub mod Codes
+pub mod Opposites
 pub mod Types

@@ -1,6 +1,6 @@
 -- The loop over compares, and what it makes of the mask. Assumes nothing.
 use mathlib.Core.Path.{_≡_, refl, sym, ap, ap₂, _∙_}
-use mathlib.Core.Bool.{Bool, true, false, not, _&&_}
+use mathlib.Core.Bool.{Bool, true, false, not, _&&_, _||_}
 use mathlib.Core.Logic.{_⊎_, inl, inr}
 use mathlib.Core.List.{List}
 use Prim.Native.Nat.{ℕ, zero, suc, _+_, _-_, _*_, _/_, _%_, _^_, _≤_, _<_}
@@ -24,6 +24,7 @@ use Rattle.opcodes.specs.WorkNumbers.{workNumber}
 use Rattle.element.specs.declared.Out.{Out}
 use Rattle.element.specs.Receives.{resultOf}
 use Rattle.element.proofs.Codes.{compare-ignores, compare-types}
+use Rattle.element.proofs.Opposites.{opposite-types, opposite-bit}
 use Rattle.machine.specs.declared.Effect.{Effect}
 use Rattle.machine.specs.declared.Kind.{Kind}
 use Rattle.machine.specs.declared.Kind.the-variants as kind
@@ -32,7 +33,7 @@ use Rattle.machine.specs.Kind.{kindOf, isCompare, isIota}
 use Rattle.machine.specs.Run.{Run, run, progress, withVmr, withVcr, gathered}
 use Rattle.machine.specs.Step.{first, received, registerBit, notes, written, recorded, worked}
 use Rattle.machine.specs.Iota.{iotaStep}
-use Rattle.machine.specs.Loops.{comparedAt, oddFrom, effected, doneFor}
+use Rattle.machine.specs.Loops.{operandAt, comparedAt, oddFrom, OddBelow, effected, doneFor}
 use Rattle.machine.proofs.Gather.{gathered-twice, gathered-none}
 use Rattle.machine.proofs.WorkKinds.{is-compare}
 
@@ -71,6 +72,12 @@ odd-bit v i (suc n) (suc k) h =
     same : suc i + k ≡ i + suc k
     same = omega arith
 
+pub odd-below : (v : ℕ → ℕ) (n set : ℕ) → set ≡ oddFrom v 0 n → OddBelow v n set
+odd-below v n set q k h =
+    ap (λ (s : ℕ). bit s k) q
+    ∙ odd-bit v 0 n k h
+    ∙ ap (λ (j : ℕ). eqb (v j % 2) 1) (zero-add k)
+
 -- ---- the loop, from the highest element down
 pub nothing : (v : ℕ → ℕ) (to : ℕ) → 0 ≡ oddFrom v to (to - to)
 unfolding oddFrom
@@ -101,6 +108,23 @@ module _ (v : ℕ → ℕ) (i to : ℕ) (set : ℕ) (is : set ≡ oddFrom v i (t
 
       count : suc (to - i) ≡ to - j
       count = omega arith
+
+-- ---- an F compare, from what the relation's bits <1:0> found and refused
+module _ (code relation : ℕ) (scalar : Bool) (x va vb : ℕ) (l : List ℕ) (other : code ≡ 4 → ⊥) (n : ℕ) where
+  abbrev by : ℕ → ℕ → Out
+  by r i = comparedAt code r scalar x va vb l i
+
+  pub opposite-refused : (refused : ℕ) → refused ≡ oddFrom (λ i. by (relation % 4) i .types / 4) 0 n → OddBelow (λ i. by relation i .types / 4) n refused
+  opposite-refused refused q i h =
+      odd-below _ n refused q i h
+      ∙ ap (λ (t : ℕ). eqb (t / 4 % 2) 1) (opposite-types code other relation (operandAt scalar x va l i) (at l vb i))
+
+  pub opposite-found : (found refused all : ℕ) → found ≡ oddFrom (λ i. by (relation % 4) i .value) 0 n → refused ≡ oddFrom (λ i. by (relation % 4) i .types / 4) 0 n → n ≤ 64
+      → ((i : ℕ) → i < 64 → bit all i ≡ pick (eqb (relation / 4 % 2) 1) (not (bit found i || bit refused i)) (bit found i)) → OddBelow (λ i. by relation i .value) n all
+  opposite-found found refused all p q s e i h =
+      e i (omega arith)
+      ∙ ap₂ (λ (f r : Bool). pick (eqb (relation / 4 % 2) 1) (not (f || r)) f) (odd-below _ n found p i h) (odd-below _ n refused q i h)
+      ∙ opposite-bit code other relation (operandAt scalar x va l i) (at l vb i)
 
 -- ---- the mask, as the compares of a set leave it
 no-iota : (k : Kind) → isCompare k ≡ true → isIota k ≡ false
@@ -276,24 +300,18 @@ module _ (ins : Instruction) (x which : ℕ) (l : List ℕ) (p : Progress) (comp
   -- what the loop found and refused below n
   module _ (n found refused : ℕ) (e : Effect) (short : n ≤ 64)
       (inside : (i : ℕ) → bit which i ≡ true → i < n)
-      (is-found : found ≡ oddFrom (λ i. out i .value) 0 n)
-      (is-refused : refused ≡ oddFrom (λ i. out i .types / 4) 0 n)
+      (is-found : OddBelow (λ i. out i .value) n found)
+      (is-refused : OddBelow (λ i. out i .types / 4) n refused)
       (is-vmr : (k : ℕ) → bit (e .vmr) k ≡ pick (bit which k) (bit found k) (bit (p .control .vmr) k))
       (is-vcr : e .vcr ≡ p .control .vcr)
       (is-notes : e .notes ≡ pick (eqb (bitAnd refused which) 0) 0 4)
     where
-      moved : (set : ℕ) (v : ℕ → ℕ) → set ≡ oddFrom v 0 n → (k : ℕ) → bit which k ≡ true → bit set k ≡ eqb (v k % 2) 1
-      moved set v q k g =
-          ap (λ (s : ℕ). bit s k) q
-          ∙ odd-bit v 0 n k (inside k g)
-          ∙ ap (λ (j : ℕ). eqb (v j % 2) 1) (zero-add k)
-
       same-mask : e .vmr ≡ after 64 .vmr
       same-mask = same-bits (e .vmr) (after 64 .vmr) (λ k. is-vmr k ∙ at k (bit which k) refl ∙ sym (bits 64 k))
         where
           at : (k : ℕ) (t : Bool) → bit which k ≡ t → pick t (bit found k) (bit (p .control .vmr) k) ≡ pick (ltb k 64 && bit which k) (eqb (out k .value % 2) 1) (bit (p .control .vmr) k)
           at k true g =
-              moved found (λ i. out i .value) is-found k g
+              is-found k (inside k g)
               ∙ sym (pick-true (ltb k 64 && bit which k) _ _ (ap₂ (λ (s u : Bool). s && u) (lt-ltb k 64 (let h = inside k g in omega arith)) g))
           at k false g = sym (pick-false (ltb k 64 && bit which k) _ _ (ap (λ (u : Bool). ltb k 64 && u) g ∙ none-of (ltb k 64)))
             where
@@ -316,7 +334,7 @@ module _ (ins : Instruction) (x which : ℕ) (l : List ℕ) (p : Progress) (comp
               whole-of false = refl
 
               at : (t : Bool) → bit which k ≡ t → (bit refused k && t) ≡ (t && refuses k)
-              at true g = whole-of (bit refused k) ∙ moved refused (λ i. out i .types / 4) is-refused k g
+              at true g = whole-of (bit refused k) ∙ is-refused k (inside k g)
               at false g = none-of (bit refused k)
 
       pub compared : run l (effected e p) ≡ doneFor which ins x (run l p)

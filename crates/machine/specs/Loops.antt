@@ -1,7 +1,9 @@
 -- What the loops over elements make, in the terms that they work with. No public promise cites this; proofs/ shows that this is what the instruction's steps make.
+use mathlib.Core.Path.{_≡_}
 use mathlib.Core.Bool.{Bool, false}
 use mathlib.Core.List.{List}
-use Prim.Native.Nat.{ℕ, zero, suc, _+_, _*_, _%_, _^_}
+use Prim.Native.Nat.{ℕ, zero, suc, _+_, _*_, _%_, _^_, _<_}
+use lib.Dec.{eqb}
 use lib.Bits.{bitOr}
 use lib.ListN.{set}
 use Rattle.numbers.specs.Choice.{pick}
@@ -79,6 +81,10 @@ comparedAt code relation scalar x va vb l i = resultOf (compareWork code) false 
 unfoldable pub oddFrom : (ℕ → ℕ) → ℕ → ℕ → ℕ
 oddFrom v i zero = 0
 oddFrom v i (suc n) = oddFrom v (suc i) n * 2 + v i % 2
+
+-- below n a set has the numbers whose v is odd; its bits from n on are left open
+abbrev pub OddBelow : (ℕ → ℕ) → ℕ → ℕ → Type 0
+OddBelow v n set = (i : ℕ) → i < n → bit set i ≡ eqb (v i % 2) 1
 
 -- ---- IOTA: the elements, and which is next
 pub record Written : Type 0 where

@@ -8,14 +8,16 @@ use element::Out;
 use numbers::bits;
 use opcodes::Instruction;
 ghost use mathlib.Core.Path.{_≡_};
-ghost use mathlib.Core.Bool.{true, false};
-ghost use Prim.Native.Nat.{ℕ, _<_, _≤_, _/_};
+ghost use mathlib.Core.Bool.{true, false, not, _||_};
+ghost use Prim.Native.Nat.{ℕ, _<_, _≤_, _/_, _%_};
+ghost use lib.Dec.{eqb};
+ghost use Rattle.numbers.specs.Choice.{pick};
 ghost use Rattle.numbers.specs.Bits.{bit};
 ghost use Rattle.machine.specs.declared.Progress.{Progress};
 ghost use Rattle.machine.specs.Kind.{kindOf, isCompare};
 ghost use Rattle.machine.specs.Run.{run as runOf};
 ghost use Rattle.machine.specs.Step.{worked};
-ghost use Rattle.machine.specs.Loops.{comparedAt, oddFrom, effected, doneFor};
+ghost use Rattle.machine.specs.Loops.{comparedAt, oddFrom, OddBelow, effected, doneFor};
 
 // The compare of one element.
 fn one(
@@ -134,7 +136,24 @@ fn longwords(
     of_registers(elements, relation, x, va, vb, n)
 }
 
-// Longwords or F, by the work's number.
+// What a relation finds, from what its bits <1:0> found. With bit <2> it is the opposite: the elements that were neither found nor
+// refused, and every bit past the length.
+fn opposed(m: Found, relation: u64) -> Found
+    ensures found { λ r. ⌜ ((i : ℕ) → i < 64 → bit (r .found) i ≡ pick (eqb (relation / 4 % 2) 1) (not (bit (m .found) i || bit (m .refused) i)) (bit (m .found) i)) ⌝ }
+    ensures refused { λ r. ⌜ r .refused ≡ m .refused ⌝ }
+{
+    Found {
+        found: if relation / 4 % 2 == 1 {
+            !(m.found | m.refused)
+        } else {
+            m.found
+        },
+        refused: m.refused,
+    }
+}
+
+// Longwords or F, by the work's number. The loop over F goes by the relation's bits <1:0>; bit <2> is looked at once, after it.
+// Bits from n on are left open.
 fn either(
     elements: &[u64; 1024],
     code: u8,
@@ -146,12 +165,15 @@ fn either(
     n: usize,
 ) -> Found
     requires { ⌜ (va < 16) × (vb < 16) × (n ≤ 64) ⌝ }
-    ensures found { λ r. ⌜ r .found ≡ oddFrom (λ i. comparedAt code relation scalar x va vb (now (elements .entry)) i .value) 0 n ⌝ }
-    ensures refused { λ r. ⌜ r .refused ≡ oddFrom (λ i. comparedAt code relation scalar x va vb (now (elements .entry)) i .types / 4) 0 n ⌝ }
+    ensures found { λ r. ⌜ OddBelow (λ i. comparedAt code relation scalar x va vb (now (elements .entry)) i .value) n (r .found) ⌝ }
+    ensures refused { λ r. ⌜ OddBelow (λ i. comparedAt code relation scalar x va vb (now (elements .entry)) i .types / 4) n (r .refused) ⌝ }
 {
     match code {
         4 => longwords(elements, relation, scalar, x, va, vb, n),
-        _ => every(elements, code, relation, scalar, x, va, vb, n),
+        _ => opposed(
+            every(elements, code, relation % 4, scalar, x, va, vb, n),
+            relation,
+        ),
     }
 }
 
