@@ -389,6 +389,7 @@ static void integer(void)
     instructions("compare, masked", any, 0xC0, MOE, RELATION, 0);
     put_back = false;
     instructions("merge", any, 0xEE, MTF, VECTOR_SOURCES, 0);
+    instructions("merge, scalar", any, 0xEF, MTF, VECTOR_SOURCES, 0);
     instructions("IOTA", any, 0xED, MTF, VECTOR_SOURCES, 0);
     end("element");
 }
@@ -403,6 +404,7 @@ static void floating(void)
     instructions("multiply, masked", ordinary, 0xA4, MOE | MTF | EXC, VECTOR_SOURCES, 0);
     put_back = true;
     instructions("compare", ordinary, 0xC4, 0, RELATION, 0);
+    instructions("compare, scalar", ordinary, 0xC5, 0, RELATION, 0);
     instructions("compare, masked", ordinary, 0xC4, MOE, RELATION, 0);
     put_back = false;
     instructions("convert L to F", any, 0xEC, EXC, CONVERSION, 1);
