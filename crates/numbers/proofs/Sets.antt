@@ -1,11 +1,11 @@
 -- Numbers as sets of bits: unions and sections. Assumes nothing.
 use mathlib.Core.Path.{_≡_, refl, sym, ap, ap₂, _∙_}
-use mathlib.Core.Bool.{Bool, true, false, not, _&&_, _||_}
+use mathlib.Core.Bool.{Bool, Bool·beq, true, false, not, _&&_, _||_}
 use mathlib.Core.Logic.{_⊎_, inl, inr}
 use Prim.Native.Nat.{ℕ, _-_, _/_, _%_, _^_, _<_, _≤_}
 use native.Mathlib.Nat.{zero-div}
 use lib.Dec.{eqb}
-use lib.Bits.{bitOr, bitAnd, or-shr, or-mod, and-shr, and-mod}
+use lib.Bits.{bitOr, bitAnd, bitXor, or-shr, or-mod, and-shr, and-mod, xor-shr, xor-mod}
 use Rattle.numbers.specs.Choice.{pick}
 use Rattle.numbers.specs.Bits.{bit, complement}
 use Rattle.numbers.proofs.BitLaws.{digit, digit-lt, of-digit, same-digits, bit-counts, bit-above, bit-complement}
@@ -28,6 +28,11 @@ pub bit-and : (a b k : ℕ) → bit (bitAnd a b) k ≡ (bit a k && bit b k)
 bit-and a b k =
     ap (λ (d : ℕ). eqb d 1) (ap (λ (n : ℕ). n % 2) (and-shr a b k) ∙ and-mod (a / 2 ^ k) (b / 2 ^ k) 1)
     ∙ of-digits (λ (d e : ℕ). eqb (bitAnd d e) 1 ≡ (eqb d 1 && eqb e 1)) refl refl refl refl (digit a k) (digit b k) (digit-lt a k) (digit-lt b k)
+
+pub bit-xor : (a b k : ℕ) → bit (bitXor a b) k ≡ not (Bool·beq (bit a k) (bit b k))
+bit-xor a b k =
+    ap (λ (d : ℕ). eqb d 1) (ap (λ (n : ℕ). n % 2) (xor-shr a b k) ∙ xor-mod (a / 2 ^ k) (b / 2 ^ k) 1)
+    ∙ of-digits (λ (d e : ℕ). eqb (bitXor d e) 1 ≡ not (Bool·beq (eqb d 1) (eqb e 1))) refl refl refl refl (digit a k) (digit b k) (digit-lt a k) (digit-lt b k)
 
 pub bit-none : (k : ℕ) → bit 0 k ≡ false
 bit-none k = ap (λ (n : ℕ). eqb (n % 2) 1) (zero-div (2 ^ k))

@@ -1,148 +1,190 @@
 -- An entry of an order list comes or is refused, as the code does it. Assumes nothing.
 use mathlib.Core.Path.{_≡_, refl, sym, ap, ap₂, subst, _∙_}
-use mathlib.Core.Bool.{Bool, true, false, _&&_}
+use mathlib.Core.Bool.{Bool, Bool·beq, true, false, not, _&&_, _||_}
 use mathlib.Core.List.{List}
-use Prim.Native.Nat.{ℕ, _*_, _%_, _^_, _<_, _≤_}
+use Prim.Native.Nat.{ℕ, _+_, _-_, _*_, _%_, _^_, _<_, _≤_}
 use native.Mathlib.Omega.{arith}
+use native.Mathlib.Numerals.{add-one}
 use native.Mathlib.Decide.{ℕ-discrete}
-use borrow.Author.Tests.{eq-eqb, ne-eqb, lt-ltb, le-ltb}
-use lib.Dec.{T, eqb}
-use lib.Bits.{bitOr, bitAnd, and-zero-l}
-use lib.Pow.{pow-pos}
+use borrow.Author.Tests.{eq-eqb, ne-eqb, lt-ltb, le-ltb, ltb-true}
+use lib.Dec.{T, eqb, ltb}
+use lib.Bits.{bitXor}
 use lib.ListN.{length, getD, set, length-set}
-use lib.Seq.{getD-set-same, getD-set-other, set-getD, set-set}
+use lib.Seq.{getD-set-same, getD-set-other}
 use Rattle.numbers.specs.Choice.{pick}
-use Rattle.numbers.specs.Bits.{bit, complement}
+use Rattle.numbers.specs.Bits.{bit}
 use Rattle.numbers.proofs.BitLaws.{one-shifted}
 use Rattle.queue.specs.Touch.{position, element}
-use Rattle.queue.specs.Tables.{joined, joinedIf, everywhere, ready, groupOf, mayCome, Came}
-use Rattle.queue.proofs.Touching.{shifted}
-use Rattle.queue.proofs.Groups.{alone→ready, ready→alone}
+use Rattle.queue.specs.Tables.{joined, parted, apart, gone, somewhere, ready, never, groupOf, mayCome, Came, Comes, Passed, ComeOn, ComeFrom}
+use Rattle.queue.proofs.Tests.{and-none}
+use Rattle.queue.proofs.Accepting.{both}
+use Rattle.queue.proofs.Sets.{not-not, bit-one, bit-parted, bit-turned, turned-out, apart→}
+use Rattle.queue.proofs.Groups.{alone→ready}
 
 -- a refused entry does not come
 pub refuses : {A : Type 0} (t : Bool) → t ≡ false → (false ≡ t) × (false ≡ true → A)
 refuses t e = (sym e, λ f. absurd (subst T (sym f) tt))
 
--- the step of one element
-pub step-came : (came : List ℕ) (x : ℕ) → length came ≡ 64 → position x < 16
-    → Came false x came (set came (element x) (bitOr (getD came (element x) 0) (1 * 2 ^ position x % 18446744073709551616)))
-step-came came x long h = record { long = simp length-set; sets = λ e g. go e (ℕ-discrete e (element x)) }
+-- the step of one element, where its position is left
+pub step-came : (left : List ℕ) (x turned : ℕ) → length left ≡ 64 → bit (getD left (element x) 0) (position x) ≡ true
+    → turned ≡ bitXor (getD left (element x) 0) (2 ^ position x) → Came false x left (set left (element x) turned)
+step-came left x turned long is t = record { long = simp length-set; sets = λ e k g. go e k (ℕ-discrete e (element x)) }
   where
-    go : (e : ℕ) → Dec (e ≡ element x) → getD (set came (element x) (bitOr (getD came (element x) 0) (1 * 2 ^ position x % 18446744073709551616))) e 0 ≡ joinedIf (eqb e (element x)) (getD came e 0) (position x)
-    go e (yes z) =
-        ap (λ (j : ℕ). getD (set came (element x) (bitOr (getD came (element x) 0) (1 * 2 ^ position x % 18446744073709551616))) j 0) z
-        ∙ getD-set-same came (element x) (bitOr (getD came (element x) 0) (1 * 2 ^ position x % 18446744073709551616)) 0 (omega arith)
-        ∙ shifted (getD came (element x) 0) (position x) (omega arith)
-        ∙ sym (ap₂ (λ (b : Bool) (j : ℕ). joinedIf b (getD came j 0) (position x)) (eq-eqb e (element x) z) z)
-    go e (no z) =
-        getD-set-other came (element x) e (bitOr (getD came (element x) 0) (1 * 2 ^ position x % 18446744073709551616)) 0 z
-        ∙ sym (ap (λ (b : Bool). joinedIf b (getD came e 0) (position x)) (ne-eqb e (element x) z))
+    go : (e k : ℕ) → Dec (e ≡ element x) → gone (set left (element x) turned) e k ≡ (eqb e (element x) && eqb k (position x) || gone left e k)
+    go e k (yes z) =
+        ap (λ (j : ℕ). gone (set left (element x) turned) j k) z
+        ∙ ap (λ (v : ℕ). not (bit v k)) (getD-set-same left (element x) turned 0 (omega arith) ∙ t)
+        ∙ turned-out (getD left (element x) 0) (position x) is k
+        ∙ sym (ap₂ (λ (b : Bool) (j : ℕ). b && eqb k (position x) || gone left j k) (eq-eqb e (element x) z) z)
+    go e k (no z) =
+        ap (λ (v : ℕ). not (bit v k)) (getD-set-other left (element x) e turned 0 z)
+        ∙ sym (ap (λ (b : Bool). b && eqb k (position x) || gone left e k) (ne-eqb e (element x) z))
 
 -- IOTA's, for every element
-pub iota-came : (came came′ : List ℕ) (x : ℕ) → length came ≡ 64
-    → (length came′ ≡ 64) × ((e : ℕ) → e < 64 → getD came′ e 0 ≡ joined (getD came e 0) (position x))
-    → Came true x came came′
-iota-came came came′ x long r = record { long = r .0 ∙ sym long; sets = r .1 }
+pub iota-came : (left left′ : List ℕ) (x : ℕ) → length left ≡ 64
+    → (length left′ ≡ 64) × ((e : ℕ) → e < 64 → getD left′ e 0 ≡ parted (getD left e 0) (position x))
+    → Came true x left left′
+iota-came left left′ x long r = record {
+  long = r .0 ∙ sym long;
+  sets = λ e k g. ap (λ (v : ℕ). not (bit v k)) (r .1 e g) ∙ bit-parted (getD left e 0) (position x) k;
+}
 
 -- ---- the test
-module _ (n iotas : ℕ) (bound came : List ℕ) (x : ℕ) where
+module _ (n iotas : ℕ) (bound left : List ℕ) (x : ℕ) where
   abbrev by-kind : Bool → Bool
-  by-kind b = pick b (eqb (element x) 0 && ready (getD bound (position x) 0) (everywhere came 64) (position x)) (ready (getD bound (position x) 0) (getD came (element x) 0) (position x))
+  by-kind b = pick b (eqb (element x) 0 && ready (getD bound (position x) 0) (somewhere left 64) (position x)) (ready (getD bound (position x) 0) (getD left (element x) 0) (position x))
 
-  pub may-not : n ≤ position x → mayCome n iotas bound came x ≡ false
+  pub may-not : n ≤ position x → mayCome n iotas bound left x ≡ false
   unfolding mayCome
   may-not h = ap (λ (t : Bool). t && by-kind (bit iotas (position x))) (le-ltb (position x) n h)
 
-  pub may-by : (came′ : List ℕ) → position x < n → (i b r : Bool) → i ≡ bit iotas (position x) → i ≡ b
-      → (r ≡ by-kind b) × (r ≡ true → Came b x came came′)
-      → (r ≡ mayCome n iotas bound came x) × (r ≡ true → Came (bit iotas (position x)) x came came′)
+  pub may-by : (left′ : List ℕ) → position x < n → (i b r : Bool) → i ≡ bit iotas (position x) → i ≡ b
+      → (r ≡ by-kind b) × (r ≡ true → Came b x left left′)
+      → (r ≡ mayCome n iotas bound left x) × (r ≡ true → Came (bit iotas (position x)) x left left′)
   unfolding mayCome
-  may-by came′ h i b r is e g =
+  may-by left′ h i b r is e g =
       let same : b ≡ bit iotas (position x) = sym e ∙ is in (
         g .0 ∙ ap₂ (λ (t u : Bool). t && by-kind u) (sym (lt-ltb (position x) n h)) same,
-        λ f. subst (λ (k : Bool). Came k x came came′) same (g .1 f),
+        λ f. subst (λ (k : Bool). Came k x left left′) same (g .1 f),
       )
 
 -- IOTA's test
 pub iota-not : (e : ℕ) (t : Bool) → (e ≡ 0 → ⊥) → (eqb e 0 && t) ≡ false
 iota-not e t h = ap (λ (b : Bool). b && t) (ne-eqb e 0 h)
 
-pub iota-tested : (e bound all p : ℕ) (came : List ℕ) (r : Bool) → e ≡ 0 → all ≡ everywhere came 64 → r ≡ ready bound all p → r ≡ (eqb e 0 && ready bound (everywhere came 64) p)
-iota-tested e bound all p came r z f h =
-    h ∙ ap (λ (s : ℕ). ready bound s p) f ∙ sym (ap (λ (b : Bool). b && ready bound (everywhere came 64) p) (eq-eqb e 0 z))
+pub iota-tested : (e bound any p : ℕ) (left : List ℕ) (r : Bool) → e ≡ 0 → any ≡ somewhere left 64 → r ≡ ready bound any p → r ≡ (eqb e 0 && ready bound (somewhere left 64) p)
+iota-tested e bound any p left r z f h =
+    h ∙ ap (λ (s : ℕ). ready bound s p) f ∙ sym (ap (λ (b : Bool). b && ready bound (somewhere left 64) p) (eq-eqb e 0 z))
 
--- a table of which one set is kept apart is as long as one
-pub table-long : (came : List ℕ) (at kept : ℕ) → length (set came at kept) ≡ 64 → length came ≡ 64
-table-long came at kept e = simp length-set at e
+-- an entry that may come is at a position of the queue
+pub inside-of : (n iotas : ℕ) (bound left : List ℕ) (x : ℕ) → mayCome n iotas bound left x ≡ true → position x < n
+unfolding mayCome
+inside-of n iotas bound left x e = ltb-true (position x) n (both (ltb (position x) n) _ e .0)
 
-pub still-long : (came came′ : List ℕ) (at kept e here : ℕ) → length came ≡ 64 → set came′ e here ≡ set came at kept → length (set came′ e here) ≡ 64
-still-long came came′ at kept e here long fetched = ap length fetched ∙ simp length-set long
+-- what never comes does not come with it
+pub never-stays : (iota : Bool) (x : ℕ) (left left′ : List ℕ) → position x < 16 → Came iota x left left′
+    → ((e : ℕ) → e < 64 → gone left e never ≡ false) → (e : ℕ) → e < 64 → gone left′ e never ≡ false
+never-stays iota x left left′ h c s e g =
+    c .sets e never g
+    ∙ ap₂ (λ (t u : Bool). (iota || eqb e (element x)) && t || u) (ne-eqb never (position x) (λ z. omega arith)) (s e g)
+    ∙ ap (λ (t : Bool). t || false) (and-none (iota || eqb e (element x)))
 
--- ---- the entry, where the set of element `at` is kept out of the table `came`, and then that of the entry's own out of `came′`
-module _ (n iotas : ℕ) (bound came came′ : List ℕ) (x at kept here : ℕ) (few : n ≤ 16) (long : length came ≡ 64) (fetched : set came′ (element x) here ≡ set came at kept) (inside : position x < n) where
-  abbrev table : List ℕ
-  table = set came at kept
+-- ---- an entry alone, of a queue's position
+module _ (n iotas : ℕ) (bound left : List ℕ) (x : ℕ) (few : n ≤ 16) (long : length left ≡ 64) (inside : position x < n) (plain : bit iotas (position x) ≡ false) where
+  pub not-ready : (r : Bool) → r ≡ ready (getD bound (position x) 0) (getD left (element x) 0) (position x) → r ≡ false → mayCome n iotas bound left x ≡ false
+  not-ready r is e =
+      sym (may-by n iotas bound left x left inside (bit iotas (position x)) false r refl plain (is, λ f. absurd (subst T (sym f ∙ e) tt)) .0) ∙ e
 
-  long-table : length table ≡ 64
-  long-table = simp length-set long
+  pub ready-comes : (r : Bool) → r ≡ ready (getD bound (position x) 0) (getD left (element x) 0) (position x) → r ≡ true
+      → (true ≡ mayCome n iotas bound left x) × (true ≡ true → Came (bit iotas (position x)) x left (set left (element x) (bitXor (getD left (element x) 0) (1 * 2 ^ position x % 18446744073709551616))))
+  ready-comes r is e =
+      may-by n iotas bound left x _ inside (bit iotas (position x)) false true refl plain
+      (sym e ∙ is, λ f. step-came left x _ long (both (bit (getD left (element x) 0) (position x)) (apart (getD bound (position x) 0) (getD left (element x) 0)) (sym is ∙ e) .0) (ap (bitXor (getD left (element x) 0)) (one-shifted (position x) 64 (omega arith))))
 
-  its-set : getD table (element x) 0 ≡ here
-  its-set =
-      sym (ap (λ (l : List ℕ). getD l (element x) 0) fetched)
-      ∙ getD-set-same came′ (element x) here 0 (let l = table-long came′ (element x) here (still-long came came′ at kept (element x) here long fetched) in omega arith)
+-- ---- an entry that is seen to come by its group, where `here` is its element's set
+module _ (n iotas : ℕ) (bound left : List ℕ) (x here : ℕ) (few : n ≤ 16) (long : length left ≡ 64) (fetched : here ≡ getD left (element x) 0) (inside : position x < n)
+    (group : ℕ) (is : group ≡ groupOf iotas bound (position x)) (earlier : (k : ℕ) → bit (getD bound (position x) 0) k ≡ true → k < position x)
+    (stays : gone left (element x) never ≡ false)
+  where
+    abbrev turned : ℕ
+    turned = bitXor here (1 * 2 ^ position x % 18446744073709551616)
 
-  stored : (v : ℕ) → set came′ (element x) v ≡ set table (element x) v
-  stored v = sym (set-set came′ (element x) here v) ∙ ap (λ (l : List ℕ). set l (element x) v) fetched
+    as-power : turned ≡ bitXor (getD left (element x) 0) (2 ^ position x)
+    as-power = ap₂ (λ (a b : ℕ). bitXor a b) fetched (one-shifted (position x) 64 (omega arith))
 
-  abbrev Passes : Bool → ℕ → List ℕ → Type 0
-  Passes may e after = (may ≡ mayCome n iotas bound table x) × (may ≡ true → (e < 64) × Came (bit iotas (position x)) x table after)
+    abbrev group-by : Bool → ℕ
+    group-by t = pick t (2 ^ never) (joined (getD bound (position x) 0) (position x))
 
-  module _ (group left : ℕ) (is : group ≡ groupOf iotas bound (position x)) (are : left ≡ bitAnd group (complement 64 here)) (word : here < 2 ^ 64)
-      (earlier : (k : ℕ) → bit (getD bound (position x) 0) k ≡ true → k < position x)
+    abbrev free : Bool → Bool
+    free t = apart (group-by t) (bitXor (getD left (element x) 0) (2 ^ position x))
+
+    as-free : (t : Bool) → bit iotas (position x) ≡ t → apart group turned ≡ free t
+    as-free t z = ap₂ (λ (g v : ℕ). apart g v) (is ∙ ap group-by z) as-power
+
+    -- of an IOTA's group a position is left
+    never-free : free true ≡ true → ⊥
+    never-free e =
+        clash (sym (apart→ (2 ^ never) (bitXor (getD left (element x) 0) (2 ^ position x)) e never (bit-one never never))
+        ∙ ap not (bit-turned (getD left (element x) 0) (position x) never ∙ ap₂ (λ (b t : Bool). not (Bool·beq b t)) is-left (ne-eqb never (position x) (λ z. omega arith))))
+      where
+        is-left : bit (getD left (element x) 0) never ≡ true
+        is-left = sym (not-not (bit (getD left (element x) 0) never)) ∙ ap not stays
+
+        clash : true ≡ false → ⊥
+        clash f = subst T f tt
+
+    -- where nothing of the group is left, it is no IOTA's, and its step may come
+    free-ready : (t : Bool) → bit iotas (position x) ≡ t → apart group turned ≡ true
+        → (t ≡ false) × (ready (getD bound (position x) 0) (getD left (element x) 0) (position x) ≡ true)
+    free-ready true z e = absurd (never-free (sym (as-free true z) ∙ e))
+    free-ready false z e = (refl, alone→ready (getD bound (position x) 0) (getD left (element x) 0) (position x) earlier (sym (as-free false z) ∙ e))
+
+    pub seen-comes : (t : Bool) → t ≡ apart group turned → t ≡ true → Passed true n iotas bound x left (set left (element x) turned) × (getD (set left (element x) turned) (element x) 0 ≡ turned)
+    seen-comes t f e =
+        let q = free-ready (bit iotas (position x)) refl (sym f ∙ e) in
+        let left-here = both (bit (getD left (element x) 0) (position x)) (apart (getD bound (position x) 0) (getD left (element x) 0)) (q .1) .0 in
+        let r = may-by n iotas bound left x (set left (element x) turned) inside (bit iotas (position x)) false true refl (q .0)
+        (sym (q .1), λ g. step-came left x turned long left-here as-power) in (
+          record { comes = λ g. record { may = sym (r .0); came = r .1 refl }; same = λ g. absurd (subst T g tt) },
+          getD-set-same left (element x) turned 0 (omega arith),
+        )
+
+-- one that is not leaves all as it was
+pub unseen : (n iotas : ℕ) (bound : List ℕ) (x : ℕ) (left : List ℕ) → Passed false n iotas bound x left left
+unseen n iotas bound x left = record { comes = λ f. absurd (subst T (sym f) tt); same = λ f. refl }
+
+-- ---- entries that come one after the other
+module _ (n iotas : ℕ) (bound list left : List ℕ) (from : ℕ) where
+  pub come-none : from ≤ length list → ComeFrom n iotas bound list left from left from
+  unfolding ComeOn
+  come-none h = record { forth = omega arith; inside = h; on = subst (ComeOn n iotas bound list left from left) none refl }
     where
-      abbrev group-by : Bool → ℕ
-      group-by t = pick t 0 (joined (getD bound (position x) 0) (position x))
+      none : 0 ≡ from - from
+      none = omega arith
 
-      -- where only its own position is still to come, it is no IOTA, and may come
-      plain : (t : Bool) → bit iotas (position x) ≡ t → left ≡ 1 * 2 ^ position x % 18446744073709551616
-          → (t ≡ false) × (ready (getD bound (position x) 0) here (position x) ≡ true)
-      plain true z e = absurd (none (sym (one-shifted (position x) 64 (omega arith)) ∙ sym e ∙ are ∙ ap (λ (g : ℕ). bitAnd g (complement 64 here)) (is ∙ ap group-by z) ∙ and-zero-l (complement 64 here)))
-        where
-          none : 2 ^ position x ≡ 0 → ⊥
-          none f = let p = pow-pos (position x) in omega arith
-      plain false z e = (
-        refl,
-        alone→ready (getD bound (position x) 0) here (position x) word (omega arith) earlier
-            (sym (are ∙ ap (λ (g : ℕ). bitAnd g (complement 64 here)) (is ∙ ap group-by z)) ∙ e ∙ one-shifted (position x) 64 (omega arith)),
-      )
+  pub come-more : (mid left′ : List ℕ) (i : ℕ) → ComeFrom n iotas bound list left from mid i → i < length list → Comes n iotas bound (getD list i 0) mid left′
+      → ComeFrom n iotas bound list left from left′ (i + 1)
+  unfolding ComeOn
+  come-more mid left′ i c h m =
+      let f = c .forth in
+      let k : i - from + 1 ≡ i + 1 - from = omega arith in let j : i ≡ from + (i - from) = omega arith in
+      record {
+        forth = omega arith;
+        inside = omega arith;
+        on = subst (ComeOn n iotas bound list left from left′) (sym (add-one (i - from)) ∙ k)
+            (record { left = mid; so-far = c .on; comes = subst (λ (a : ℕ). Comes n iotas bound (getD list a 0) mid left′) j m });
+      }
 
-      pub pass-step : left ≡ 1 * 2 ^ position x % 18446744073709551616 → Passes true (element x) (set came′ (element x) (bitOr here left))
-      pass-step e =
-          let q = plain (bit iotas (position x)) refl e in
-          let c = step-came table x long-table (omega arith) in
-          let same : set came′ (element x) (bitOr here left) ≡ set table (element x) (bitOr (getD table (element x) 0) (1 * 2 ^ position x % 18446744073709551616))
-          = stored (bitOr here left) ∙ ap₂ (λ (a b : ℕ). set table (element x) (bitOr a b)) (sym its-set) e in
-          let r = may-by n iotas bound table x (set came′ (element x) (bitOr here left)) inside (bit iotas (position x)) false true refl (q .0)
-          (sym (ap (λ (s : ℕ). ready (getD bound (position x) 0) s (position x)) its-set ∙ q .1), λ f. subst (Came false x table) (sym same) c) in
-          (r .0, λ f. (omega arith, r .1 f))
+-- a loop that goes on so: how far it is, and what it keeps
+pub record Going (n iotas : ℕ) (bound list left : List ℕ) (from : ℕ) (left′ : List ℕ) (i : ℕ) : Type 0 where
+  pub so-far : ComeFrom n iotas bound list left from left′ i
+  pub long : length left′ ≡ 64
+  pub stays : (e : ℕ) → e < 64 → gone left′ e never ≡ false
 
-      pub pass-not : (left ≡ 1 * 2 ^ position x % 18446744073709551616 → ⊥) → bit iotas (position x) ≡ false → (e : ℕ) (after : List ℕ) → Passes false e after
-      pass-not f z e after = refuses _ (may-not-yet (ready (getD bound (position x) 0) here (position x)) refl)
-        where
-          not-ready : (t : Bool) → ready (getD bound (position x) 0) here (position x) ≡ t → t ≡ false
-          not-ready true r =
-              absurd (f (are ∙ ap (λ (g : ℕ). bitAnd g (complement 64 here)) (is ∙ ap group-by z) ∙ ready→alone (getD bound (position x) 0) here (position x) word (omega arith) earlier r ∙ sym (one-shifted (position x) 64 (omega arith))))
-          not-ready false r = refl
-
-          may-not-yet : (t : Bool) → ready (getD bound (position x) 0) here (position x) ≡ t → mayCome n iotas bound table x ≡ false
-          may-not-yet t r =
-              sym (may-by n iotas bound table x table inside (bit iotas (position x)) false false refl z
-              (sym (ap (λ (s : ℕ). ready (getD bound (position x) 0) s (position x)) its-set ∙ not-ready _ refl), λ g. absurd (subst T (sym g) tt)) .0)
-
-  pub pass-iota : bit iotas (position x) ≡ true → (may : Bool) (after : List ℕ)
-      → (may ≡ (eqb (element x) 0 && ready (getD bound (position x) 0) (everywhere (set came′ (element x) here) 64) (position x))) × (may ≡ true → Came true x (set came′ (element x) here) after)
-      → Passes may (element x) (set after (element x) (getD after (element x) 0))
-  pass-iota z may after r =
-      let q = may-by n iotas bound table x after inside (bit iotas (position x)) true may refl z
-      (r .0 ∙ ap (λ (l : List ℕ). eqb (element x) 0 && ready (getD bound (position x) 0) (everywhere l 64) (position x)) fetched, λ f. subst (λ (l : List ℕ). Came true x l after) fetched (r .1 f)) in
-      (q .0, λ f. (omega arith, subst (Came (bit iotas (position x)) x table) (sym (set-getD after (element x) 0)) (q .1 f)))
+pub goes-on : (n iotas : ℕ) (bound list left : List ℕ) (from : ℕ) (mid left′ : List ℕ) (i : ℕ) → n ≤ 16 → Going n iotas bound list left from mid i → i < length list
+    → Comes n iotas bound (getD list i 0) mid left′ → Going n iotas bound list left from left′ (i + 1)
+goes-on n iotas bound list left from mid left′ i few g h c = record {
+  so-far = come-more n iotas bound list left from mid left′ i (g .so-far) h c;
+  long = c .came .long ∙ g .long;
+  stays = never-stays (bit iotas (position (getD list i 0))) (getD list i 0) mid left′ (let p = inside-of n iotas bound mid (getD list i 0) (c .may) in omega arith) (c .came) (g .stays);
+}

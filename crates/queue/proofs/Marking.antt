@@ -8,28 +8,35 @@ use native.Mathlib.Numerals.{add-one}
 use native.Mathlib.Decide.{ℕ-discrete, decLt}
 use borrow.Author.Tests.{eq-eqb, ne-eqb, eqb-true, ltb-true, lt-ltb, le-ltb}
 use lib.Dec.{T, eqb, ltb}
-use lib.Bits.{bitAnd}
-use lib.ListN.{length, getD, replicate}
+use lib.Bits.{bitOr}
+use lib.ListN.{length, getD, replicate, getD-replicate}
 use Rattle.numbers.specs.Choice.{pick}
 use Rattle.numbers.specs.Bits.{bit}
 use lib.Pow.{pow-pos}
-use Rattle.numbers.proofs.BitLaws.{one-shifted, bit-complement}
-use Rattle.numbers.proofs.Sets.{bit-and, bit-none}
+use Rattle.numbers.proofs.BitLaws.{one-shifted}
+use Rattle.numbers.proofs.Sets.{bit-or, bit-none}
+use Rattle.queue.specs.declared.Verdict.{Verdict}
 use Rattle.queue.specs.declared.Verdict.the-variants.{Permitted, Refused}
 use Rattle.queue.specs.Order.{Mem, has, each}
 use Rattle.queue.specs.Touch.{position, element}
-use Rattle.queue.specs.Tables.{within, countBy, isStepBy, stepsBy, followsBy, verdictBy, hasCome, everywhere, ready, mayCome, Came, Started}
+use Rattle.queue.specs.Tables.{apart, countBy, isStepBy, stepsBy, followsBy, verdictBy, gone, hasCome, somewhere, ready, never, mayCome, Came, ComeOn, ComeFrom, Started}
 use Rattle.queue.proofs.Tests.{and-none, or-always, T-true, each→, →each, has→mem, mem→has}
 use Rattle.queue.proofs.Places.{same-bool, true-T}
 use Rattle.queue.proofs.Steps.{passing→, →passing}
 use Rattle.queue.proofs.Accepting.{both}
-use Rattle.queue.proofs.Filling.{zeros}
-use Rattle.queue.proofs.Sets.{bit-joined-if, bit-below, within→, →within}
+use Rattle.queue.proofs.Sets.{not-not, bit-joined, bit-below, apart→, →apart}
+use Rattle.queue.proofs.Coming.{never-stays}
 use Rattle.queue.proofs.CheckLoop.{CheckInv, mayBy, check-start, check-stop, check-on, check-end}
 
 -- the set of the positions below n is worked out without wrapping
 pub ones-fit : (n : ℕ) → n ≤ 16 → 1 ≤ 1 * 2 ^ n % 18446744073709551616
 ones-fit n h = rw (one-shifted n 64 (omega arith)) (pow-pos n)
+
+-- what the code says at the end
+pub end-says : (n i : ℕ) (left : List ℕ) (any : ℕ) (r b : Bool) → n ≤ 16 → any ≡ somewhere left 64 → r ≡ apart (1 * 2 ^ n % 18446744073709551616 - 1) any → r ≡ b
+    → pick b Permitted (Refused i) ≡ pick (apart (2 ^ n - 1) (somewhere left 64)) Permitted (Refused i)
+end-says n i left any r b few e f g =
+    ap (λ (t : Bool). pick t Permitted (Refused i)) (sym g ∙ f ∙ ap₂ (λ (s t : ℕ). apart (s - 1) t) (one-shifted n 64 (omega arith)) e)
 
 -- ---- tests
 both-true : (a b : Bool) → a ≡ true → b ≡ true → a && b ≡ true
@@ -53,35 +60,40 @@ position-at k e h = omega arith
 element-at : (k e : ℕ) → e < 64 → element (k * 64 + e) ≡ e
 element-at k e h = omega arith
 
-come-at : (came : List ℕ) (k e : ℕ) → e < 64 → hasCome came (k * 64 + e) ≡ bit (getD came e 0) k
-come-at came k e h = ap₂ (λ (i j : ℕ). bit (getD came i 0) j) (element-at k e h) (position-at k e h)
+come-at : (left : List ℕ) (k e : ℕ) → e < 64 → hasCome left (k * 64 + e) ≡ gone left e k
+come-at left k e h = ap₂ (λ (i j : ℕ). gone left i j) (element-at k e h) (position-at k e h)
 
--- ---- the positions that hold no element up
-everywhere→ : (came : List ℕ) (n k : ℕ) → bit (everywhere came n) k ≡ true → (e : ℕ) → e < n → bit (getD came e 0) k ≡ true
-unfolding everywhere
-everywhere→ came zero k f e h = absurd (none h)
+-- ---- the positions that no element waits for
+neither : (a b : Bool) → not (a || b) ≡ (not a && not b)
+neither true b = refl
+neither false b = refl
+
+somewhere→ : (left : List ℕ) (n k : ℕ) → not (bit (somewhere left n) k) ≡ true → (e : ℕ) → e < n → gone left e k ≡ true
+unfolding somewhere
+somewhere→ left zero k f e h = absurd (none h)
   where
     none : e < 0 → ⊥
     none g = omega arith
-everywhere→ came (suc n) k f e h =
-    let u = both (bit (everywhere came n) k) (bit (getD came n 0) k) (sym (bit-and (everywhere came n) (getD came n 0) k) ∙ f) in
-    go (ℕ-discrete e n) (u .1) (λ g. everywhere→ came n k (u .0) e g)
+somewhere→ left (suc n) k f e h =
+    let u = both (not (bit (somewhere left n) k)) (gone left n k) (sym (ap not (bit-or (somewhere left n) (getD left n 0) k) ∙ neither (bit (somewhere left n) k) (bit (getD left n 0) k)) ∙ f) in
+    go (ℕ-discrete e n) (u .1) (λ g. somewhere→ left n k (u .0) e g)
   where
-    go : Dec (e ≡ n) → bit (getD came n 0) k ≡ true → (e < n → bit (getD came e 0) k ≡ true) → bit (getD came e 0) k ≡ true
-    go (yes z) v r = ap (λ (j : ℕ). bit (getD came j 0) k) z ∙ v
+    go : Dec (e ≡ n) → gone left n k ≡ true → (e < n → gone left e k ≡ true) → gone left e k ≡ true
+    go (yes z) v r = ap (λ (j : ℕ). gone left j k) z ∙ v
     go (no z) v r = r (omega arith)
 
-→everywhere : (came : List ℕ) (n k : ℕ) → k < 64 → ((e : ℕ) → e < n → bit (getD came e 0) k ≡ true) → bit (everywhere came n) k ≡ true
-unfolding everywhere
-→everywhere came zero k h f = bit-below 64 k ∙ lt-ltb k 64 h
-→everywhere came (suc n) k h f =
-    bit-and (everywhere came n) (getD came n 0) k
-    ∙ both-true _ _ (→everywhere came n k h (λ e g. f e (omega arith))) (f n (omega arith))
+→somewhere : (left : List ℕ) (n k : ℕ) → ((e : ℕ) → e < n → gone left e k ≡ true) → not (bit (somewhere left n) k) ≡ true
+unfolding somewhere
+→somewhere left zero k f = ap not (bit-none k)
+→somewhere left (suc n) k f =
+    ap not (bit-or (somewhere left n) (getD left n 0) k)
+    ∙ neither (bit (somewhere left n) k) (bit (getD left n 0) k)
+    ∙ both-true _ _ (→somewhere left n k (λ e g. f e (omega arith))) (f n (omega arith))
 
 -- one element more
-pub everywhere-more : (came : List ℕ) (e all : ℕ) → all ≡ everywhere came e → bitAnd all (getD came e 0) ≡ everywhere came (e + 1)
-unfolding everywhere
-everywhere-more came e all h = ap (λ (a : ℕ). bitAnd a (getD came e 0)) h ∙ sym (ap (everywhere came) (add-one e))
+pub somewhere-more : (left : List ℕ) (e any : ℕ) → any ≡ somewhere left e → bitOr any (getD left e 0) ≡ somewhere left (e + 1)
+unfolding somewhere
+somewhere-more left e any h = ap (λ (a : ℕ). bitOr a (getD left e 0)) h ∙ sym (ap (somewhere left) (add-one e))
 
 module _ (n vlr iotas : ℕ) where
   pub record IsStep (x : ℕ) : Type 0 where
@@ -89,13 +101,14 @@ module _ (n vlr iotas : ℕ) where
     pub of : element x < countBy vlr iotas (position x)
 
   -- what the sets say after i entries
-  pub record Marked (bound list came : List ℕ) (i : ℕ) : Type 0 where
-    pub long : length came ≡ 64
-    pub on : CheckInv (followsBy iotas bound) (stepsBy n vlr iotas) list (hasCome came) i
-    -- no position but an IOTA holds the elements from VLR on up
-    pub beyond : (k e : ℕ) → k < n → bit iotas k ≡ false → vlr ≤ e → e < 64 → bit (getD came e 0) k ≡ true
-    -- an IOTA holds every element up, or none
-    pub alike : (k e : ℕ) → k < n → bit iotas k ≡ true → e < 64 → bit (getD came e 0) k ≡ bit (getD came 0 0) k
+  pub record Marked (bound list left : List ℕ) (i : ℕ) : Type 0 where
+    pub long : length left ≡ 64
+    pub on : CheckInv (followsBy iotas bound) (stepsBy n vlr iotas) list (hasCome left) i
+    -- the elements from VLR on wait for IOTAs alone
+    pub beyond : (k e : ℕ) → k < n → bit iotas k ≡ false → vlr ≤ e → e < 64 → gone left e k ≡ true
+    -- every element waits for an IOTA, or none
+    pub alike : (k e : ℕ) → k < n → bit iotas k ≡ true → e < 64 → gone left e k ≡ gone left 0 k
+    pub never-gone : (e : ℕ) → e < 64 → gone left e never ≡ false
 
 module _ (n vlr iotas : ℕ) (few : n ≤ 16) (short : vlr ≤ 64) where
   count-le : (k : ℕ) → countBy vlr iotas k ≤ 64
@@ -144,18 +157,18 @@ module _ (n vlr iotas : ℕ) (few : n ≤ 16) (short : vlr ≤ 64) where
   first y s e = let h : element y < pick true 1 vlr = subst (λ (b : Bool). element y < pick b 1 vlr) e (s .of) in omega arith
 
   module _ (bound : List ℕ) (earlier : (p k : ℕ) → p < n → bit (getD bound p 0) k ≡ true → k < p) where
-    module _ (list came : List ℕ) (i : ℕ) (inv : Marked n vlr iotas bound list came i) where
-      -- position k holds element e up no more, where its steps have come
-      held : (k e : ℕ) → k < n → e < 64 → ((j : ℕ) → j < countBy vlr iotas k → (bit iotas k || eqb j e) ≡ true → hasCome came (k * 64 + j) ≡ true) → bit (getD came e 0) k ≡ true
+    module _ (list left : List ℕ) (i : ℕ) (inv : Marked n vlr iotas bound list left i) where
+      -- element e waits for position k no more, where the steps of k have come
+      held : (k e : ℕ) → k < n → e < 64 → ((j : ℕ) → j < countBy vlr iotas k → (bit iotas k || eqb j e) ≡ true → hasCome left (k * 64 + j) ≡ true) → gone left e k ≡ true
       held k e h g f = go (bit iotas k) refl (decLt e vlr)
         where
-          go : (b : Bool) → bit iotas k ≡ b → Dec (e < vlr) → bit (getD came e 0) k ≡ true
+          go : (b : Bool) → bit iotas k ≡ b → Dec (e < vlr) → gone left e k ≡ true
           go true z d =
               inv .alike k e h z g
-              ∙ sym (come-at came k 0 (omega arith))
+              ∙ sym (come-at left k 0 (omega arith))
               ∙ f 0 (subst (λ (b : Bool). 0 < pick b 1 vlr) (sym z) (omega arith)) (ap (λ (b : Bool). b || eqb 0 e) z)
           go false z (yes d) =
-              sym (come-at came k e g)
+              sym (come-at left k e g)
               ∙ f e (subst (λ (b : Bool). e < pick b 1 vlr) (sym z) d) (ap₂ (λ (a b : Bool). a || b) z (eq-eqb e e refl))
           go false z (no d) = inv .beyond k e h z (omega arith) g
 
@@ -165,7 +178,7 @@ module _ (n vlr iotas : ℕ) (few : n ≤ 16) (short : vlr ≤ 64) where
         needed = getD bound (position x) 0
 
         abbrev awaited : ℕ → Bool
-        awaited a = not (followsBy iotas bound a x) || hasCome came a
+        awaited a = not (followsBy iotas bound a x) || hasCome left a
 
         follows-at : (k e : ℕ) → e < 64 → bit needed k ≡ true → (bit iotas k || bit iotas (position x) || eqb e (element x)) ≡ true → followsBy iotas bound (k * 64 + e) x ≡ true
         unfolding followsBy
@@ -173,13 +186,13 @@ module _ (n vlr iotas : ℕ) (few : n ≤ 16) (short : vlr ≤ 64) where
             ap₂ (λ (p j : ℕ). bit (getD bound (position x) 0) p && (bit iotas p || bit iotas (position x) || eqb j (element x))) (position-at k e h) (element-at k e h)
             ∙ both-true (bit (getD bound (position x) 0) k) _ f g
 
-        -- every step that x must follow has come: no position that it is bound to holds it up
-        frees : T (each awaited (stepsBy n vlr iotas)) → (k e : ℕ) → bit needed k ≡ true → e < 64 → (bit iotas (position x) || eqb e (element x)) ≡ true → bit (getD came e 0) k ≡ true
+        -- every step that x must follow has come: it waits for no position that it is bound to
+        frees : T (each awaited (stepsBy n vlr iotas)) → (k e : ℕ) → bit needed k ≡ true → e < 64 → (bit iotas (position x) || eqb e (element x)) ≡ true → gone left e k ≡ true
         frees t k e f g o =
             let s = sx .at in let l = earlier (position x) k (sx .at) f in
             held k e (omega arith) g (λ j c m.
             let small = count-le k in
-            implies (followsBy iotas bound (k * 64 + j) x) (hasCome came (k * 64 + j))
+            implies (followsBy iotas bound (k * 64 + j) x) (hasCome left (k * 64 + j))
             (each→ awaited (stepsBy n vlr iotas) t (k * 64 + j) (step→mem (k * 64 + j) (step-at k j (omega arith) c)))
             (follows-at k j (omega arith) f (which (bit iotas k) (bit iotas (position x)) j e (element x) m o)))
           where
@@ -188,135 +201,133 @@ module _ (n vlr iotas : ℕ) (few : n ≤ 16) (short : vlr ≤ 64) where
             which false true j d y u v = refl
             which false false j d y u v = eq-eqb j y (eqb-true j d u ∙ eqb-true d y v)
 
-        -- no position holds x up: every step that it must follow has come
+        -- x waits for no position: every step that it must follow has come
         follows-come : (a : ℕ) → IsStep n vlr iotas a → followsBy iotas bound a x ≡ true
-            → ((e : ℕ) → e < 64 → (bit iotas (position x) || eqb e (element x)) ≡ true → bit needed (position a) ≡ true → bit (getD came e 0) (position a) ≡ true)
-            → hasCome came a ≡ true
+            → ((e : ℕ) → e < 64 → (bit iotas (position x) || eqb e (element x)) ≡ true → bit needed (position a) ≡ true → gone left e (position a) ≡ true)
+            → hasCome left a ≡ true
         unfolding followsBy
         follows-come a sa f w =
             let u = both (bit needed (position a)) (bit iotas (position a) || bit iotas (position x) || eqb (element a) (element x)) f in
             go (bit iotas (position a)) (bit iotas (position x)) refl refl (u .1) (u .0)
           where
-            go : (ia ix : Bool) → bit iotas (position a) ≡ ia → bit iotas (position x) ≡ ix → (ia || ix || eqb (element a) (element x)) ≡ true → bit needed (position a) ≡ true → hasCome came a ≡ true
+            go : (ia ix : Bool) → bit iotas (position a) ≡ ia → bit iotas (position x) ≡ ix → (ia || ix || eqb (element a) (element x)) ≡ true → bit needed (position a) ≡ true → hasCome left a ≡ true
             go ia true za zx o v = w (element a) (omega arith) (ap (λ (b : Bool). b || eqb (element a) (element x)) zx) v
             go true false za zx o v =
-                ap (λ (e : ℕ). bit (getD came e 0) (position a)) (first a sa za)
+                ap (λ (e : ℕ). gone left e (position a)) (first a sa za)
                 ∙ sym (inv .alike (position a) (element x) (sa .at) za (omega arith))
                 ∙ w (element x) (omega arith) (ap₂ (λ (p q : Bool). p || q) zx (eq-eqb (element x) (element x) refl)) v
             go false false za zx o v = w (element a) (omega arith) (ap₂ (λ (p q : Bool). p || q) zx o) v
 
         -- the sets that the code looks at
         abbrev seen : Bool → ℕ
-        seen b = pick b (everywhere came 64) (getD came (element x) 0)
+        seen b = pick b (somewhere left 64) (getD left (element x) 0)
 
-        seen→ : (b : Bool) → bit iotas (position x) ≡ b → (k : ℕ) → bit (seen b) k ≡ true → (e : ℕ) → e < 64 → (bit iotas (position x) || eqb e (element x)) ≡ true → bit (getD came e 0) k ≡ true
-        seen→ true z k f e g o = everywhere→ came 64 k f e g
-        seen→ false z k f e g o = ap (λ (j : ℕ). bit (getD came j 0) k) (eqb-true e (element x) (sym (ap (λ (b : Bool). b || eqb e (element x)) z) ∙ o)) ∙ f
+        seen→ : (b : Bool) → bit iotas (position x) ≡ b → (k : ℕ) → not (bit (seen b) k) ≡ true → (e : ℕ) → e < 64 → (bit iotas (position x) || eqb e (element x)) ≡ true → gone left e k ≡ true
+        seen→ true z k f e g o = somewhere→ left 64 k f e g
+        seen→ false z k f e g o = ap (λ (j : ℕ). gone left j k) (eqb-true e (element x) (sym (ap (λ (b : Bool). b || eqb e (element x)) z) ∙ o)) ∙ f
 
-        →seen : (b : Bool) → bit iotas (position x) ≡ b → (k : ℕ) → k < 64 → ((e : ℕ) → e < 64 → (bit iotas (position x) || eqb e (element x)) ≡ true → bit (getD came e 0) k ≡ true) → bit (seen b) k ≡ true
-        →seen true z k h f = →everywhere came 64 k h (λ e g. f e g (ap (λ (b : Bool). b || eqb e (element x)) z))
-        →seen false z k h f = f (element x) (omega arith) (ap₂ (λ (p q : Bool). p || q) z (eq-eqb (element x) (element x) refl))
+        →seen : (b : Bool) → bit iotas (position x) ≡ b → (k : ℕ) → ((e : ℕ) → e < 64 → (bit iotas (position x) || eqb e (element x)) ≡ true → gone left e k ≡ true) → not (bit (seen b) k) ≡ true
+        →seen true z k f = →somewhere left 64 k (λ e g. f e g (ap (λ (b : Bool). b || eqb e (element x)) z))
+        →seen false z k f = f (element x) (omega arith) (ap₂ (λ (p q : Bool). p || q) z (eq-eqb (element x) (element x) refl))
 
-        ready-same : (b : Bool) → bit iotas (position x) ≡ b → each awaited (stepsBy n vlr iotas) ≡ within needed (seen b)
+        ready-same : (b : Bool) → bit iotas (position x) ≡ b → each awaited (stepsBy n vlr iotas) ≡ apart needed (seen b)
         ready-same b z =
-            same-bool (each awaited (stepsBy n vlr iotas)) (within needed (seen b))
-            (λ t. T-true _ (→within needed (seen b) (λ k f.
-            let s = sx .at in let l = earlier (position x) k (sx .at) f in
-            →seen b z k (omega arith) (λ e g o. frees t k e f g o))))
+            same-bool (each awaited (stepsBy n vlr iotas)) (apart needed (seen b))
+            (λ t. T-true _ (→apart needed (seen b) (λ k f. →seen b z k (λ e g o. frees t k e f g o))))
             (λ t. →each awaited (stepsBy n vlr iotas) (λ a m.
-            implied (followsBy iotas bound a x) (hasCome came a) (λ f.
-            follows-come a (mem→step a m) f (λ e g o v. seen→ b z (position a) (within→ needed (seen b) (true-T _ t) (position a) v) e g o))))
+            implied (followsBy iotas bound a x) (hasCome left a) (λ f.
+            follows-come a (mem→step a m) f (λ e g o v. seen→ b z (position a) (apart→ needed (seen b) (true-T _ t) (position a) v) e g o))))
 
         -- x itself
-        fresh-same : (b : Bool) → bit iotas (position x) ≡ b → bit (seen b) (position x) ≡ hasCome came x
+        fresh-same : (b : Bool) → bit iotas (position x) ≡ b → not (bit (seen b) (position x)) ≡ hasCome left x
         fresh-same false z = refl
         fresh-same true z =
-            same-bool (bit (everywhere came 64) (position x)) (hasCome came x)
-            (λ t. T-true _ (everywhere→ came 64 (position x) (true-T _ t) (element x) (omega arith)))
-            (λ t. T-true _ (let s = sx .at in →everywhere came 64 (position x) (omega arith) (λ e g.
-            inv .alike (position x) e (sx .at) z g ∙ sym (ap (λ (j : ℕ). bit (getD came j 0) (position x)) (first x sx z)) ∙ true-T _ t)))
+            same-bool (not (bit (somewhere left 64) (position x))) (hasCome left x)
+            (λ t. T-true _ (somewhere→ left 64 (position x) (true-T _ t) (element x) (omega arith)))
+            (λ t. T-true _ (→somewhere left 64 (position x) (λ e g.
+            inv .alike (position x) e (sx .at) z g ∙ sym (ap (λ (j : ℕ). gone left j (position x)) (first x sx z)) ∙ true-T _ t)))
 
-        entry-same : (b : Bool) → bit iotas (position x) ≡ b → (not (hasCome came x) && each awaited (stepsBy n vlr iotas)) ≡ ready needed (seen b) (position x)
-        entry-same b z = ap₂ (λ (u v : Bool). not u && v) (sym (fresh-same b z)) (ready-same b z)
+        entry-same : (b : Bool) → bit iotas (position x) ≡ b → (not (hasCome left x) && each awaited (stepsBy n vlr iotas)) ≡ ready needed (seen b) (position x)
+        entry-same b z = ap₂ (λ (u v : Bool). u && v) (ap not (sym (fresh-same b z)) ∙ not-not (bit (seen b) (position x))) (ready-same b z)
 
       -- THE CODE'S TEST IS THE CHECK'S
-      may-same : (x : ℕ) → mayBy (followsBy iotas bound) (stepsBy n vlr iotas) (hasCome came) x ≡ mayCome n iotas bound came x
+      may-same : (x : ℕ) → mayBy (followsBy iotas bound) (stepsBy n vlr iotas) (hasCome left) x ≡ mayCome n iotas bound left x
       unfolding mayBy mayCome isStepBy
       may-same x =
-          ap (λ (b : Bool). b && (not (hasCome came x) && each (λ (a : ℕ). not (followsBy iotas bound a x) || hasCome came a) (stepsBy n vlr iotas))) (has-step x)
+          ap (λ (b : Bool). b && (not (hasCome left x) && each (λ (a : ℕ). not (followsBy iotas bound a x) || hasCome left a) (stepsBy n vlr iotas))) (has-step x)
           ∙ go (decLt (position x) n) (bit iotas (position x)) refl
         where
           rest : Bool
-          rest = not (hasCome came x) && each (λ (a : ℕ). not (followsBy iotas bound a x) || hasCome came a) (stepsBy n vlr iotas)
+          rest = not (hasCome left x) && each (λ (a : ℕ). not (followsBy iotas bound a x) || hasCome left a) (stepsBy n vlr iotas)
 
           core : position x < n → (b : Bool) → bit iotas (position x) ≡ b
               → (ltb (element x) (pick b 1 vlr) && rest)
-              ≡ pick b (eqb (element x) 0 && ready (getD bound (position x) 0) (everywhere came 64) (position x)) (ready (getD bound (position x) 0) (getD came (element x) 0) (position x))
+              ≡ pick b (eqb (element x) 0 && ready (getD bound (position x) 0) (somewhere left 64) (position x)) (ready (getD bound (position x) 0) (getD left (element x) 0) (position x))
           core h true z = by (ℕ-discrete (element x) 0)
             where
-              by : Dec (element x ≡ 0) → (ltb (element x) 1 && rest) ≡ (eqb (element x) 0 && ready (getD bound (position x) 0) (everywhere came 64) (position x))
+              by : Dec (element x ≡ 0) → (ltb (element x) 1 && rest) ≡ (eqb (element x) 0 && ready (getD bound (position x) 0) (somewhere left 64) (position x))
               by (yes e) =
                   ap (λ (t : Bool). t && rest) (lt-ltb (element x) 1 (omega arith))
                   ∙ entry-same x (record { at = h; of = subst (λ (b : Bool). element x < pick b 1 vlr) (sym z) (omega arith) }) true z
-                  ∙ sym (ap (λ (t : Bool). t && ready (getD bound (position x) 0) (everywhere came 64) (position x)) (eq-eqb (element x) 0 e))
+                  ∙ sym (ap (λ (t : Bool). t && ready (getD bound (position x) 0) (somewhere left 64) (position x)) (eq-eqb (element x) 0 e))
               by (no e) =
                   ap (λ (t : Bool). t && rest) (le-ltb (element x) 1 (omega arith))
-                  ∙ sym (ap (λ (t : Bool). t && ready (getD bound (position x) 0) (everywhere came 64) (position x)) (ne-eqb (element x) 0 e))
+                  ∙ sym (ap (λ (t : Bool). t && ready (getD bound (position x) 0) (somewhere left 64) (position x)) (ne-eqb (element x) 0 e))
           core h false z = by (decLt (element x) vlr)
             where
-              by : Dec (element x < vlr) → (ltb (element x) vlr && rest) ≡ ready (getD bound (position x) 0) (getD came (element x) 0) (position x)
+              by : Dec (element x < vlr) → (ltb (element x) vlr && rest) ≡ ready (getD bound (position x) 0) (getD left (element x) 0) (position x)
               by (yes e) =
                   ap (λ (t : Bool). t && rest) (lt-ltb (element x) vlr e)
                   ∙ entry-same x (record { at = h; of = subst (λ (b : Bool). element x < pick b 1 vlr) (sym z) e }) false z
               by (no e) =
                   ap (λ (t : Bool). t && rest) (le-ltb (element x) vlr (omega arith))
-                  ∙ sym (ap (λ (t : Bool). not t && within (getD bound (position x) 0) (getD came (element x) 0)) (inv .beyond (position x) (element x) h z (omega arith) (omega arith)))
+                  ∙ sym (ap (λ (t : Bool). t && apart (getD bound (position x) 0) (getD left (element x) 0)) (sym (not-not (bit (getD left (element x) 0) (position x))) ∙ ap not (inv .beyond (position x) (element x) h z (omega arith) (omega arith))))
 
           go : Dec (position x < n) → (b : Bool) → bit iotas (position x) ≡ b
               → ((ltb (position x) n && ltb (element x) (countBy vlr iotas (position x))) && rest)
-              ≡ (ltb (position x) n && pick (bit iotas (position x)) (eqb (element x) 0 && ready (getD bound (position x) 0) (everywhere came 64) (position x)) (ready (getD bound (position x) 0) (getD came (element x) 0) (position x)))
+              ≡ (ltb (position x) n && pick (bit iotas (position x)) (eqb (element x) 0 && ready (getD bound (position x) 0) (somewhere left 64) (position x)) (ready (getD bound (position x) 0) (getD left (element x) 0) (position x)))
           go (yes h) b z =
               ap₂ (λ (t c : Bool). (t && ltb (element x) (pick c 1 vlr)) && rest) (lt-ltb (position x) n h) z
               ∙ core h b z
-              ∙ sym (ap₂ (λ (t c : Bool). t && pick c (eqb (element x) 0 && ready (getD bound (position x) 0) (everywhere came 64) (position x)) (ready (getD bound (position x) 0) (getD came (element x) 0) (position x))) (lt-ltb (position x) n h) z)
+              ∙ sym (ap₂ (λ (t c : Bool). t && pick c (eqb (element x) 0 && ready (getD bound (position x) 0) (somewhere left 64) (position x)) (ready (getD bound (position x) 0) (getD left (element x) 0) (position x))) (lt-ltb (position x) n h) z)
           go (no h) b z =
               ap (λ (t : Bool). (t && ltb (element x) (countBy vlr iotas (position x))) && rest) (le-ltb (position x) n (omega arith))
-              ∙ sym (ap (λ (t : Bool). t && pick (bit iotas (position x)) (eqb (element x) 0 && ready (getD bound (position x) 0) (everywhere came 64) (position x)) (ready (getD bound (position x) 0) (getD came (element x) 0) (position x))) (le-ltb (position x) n (omega arith)))
+              ∙ sym (ap (λ (t : Bool). t && pick (bit iotas (position x)) (eqb (element x) 0 && ready (getD bound (position x) 0) (somewhere left 64) (position x)) (ready (getD bound (position x) 0) (getD left (element x) 0) (position x))) (le-ltb (position x) n (omega arith)))
 
       -- ---- the code's answers
-      pub entry-stops : i < length list → mayCome n iotas bound came (getD list i 0) ≡ false → Refused i ≡ verdictBy n vlr iotas bound list
+      pub entry-stops : i < length list → mayCome n iotas bound left (getD list i 0) ≡ false → Refused i ≡ verdictBy n vlr iotas bound list
       unfolding verdictBy
-      entry-stops h e = check-stop (followsBy iotas bound) (stepsBy n vlr iotas) list (hasCome came) i (inv .on) h (may-same (getD list i 0) ∙ e)
+      entry-stops h e = check-stop (followsBy iotas bound) (stepsBy n vlr iotas) list (hasCome left) i (inv .on) h (may-same (getD list i 0) ∙ e)
 
-      -- no step is missing exactly where no position holds an element up
-      complete : each (hasCome came) (stepsBy n vlr iotas) ≡ within (2 ^ n - 1) (everywhere came 64)
+      -- no step is missing exactly where no element waits for a position
+      complete : each (hasCome left) (stepsBy n vlr iotas) ≡ apart (2 ^ n - 1) (somewhere left 64)
       complete =
-          same-bool (each (hasCome came) (stepsBy n vlr iotas)) (within (2 ^ n - 1) (everywhere came 64))
-          (λ t. T-true _ (→within (2 ^ n - 1) (everywhere came 64) (λ k b.
+          same-bool (each (hasCome left) (stepsBy n vlr iotas)) (apart (2 ^ n - 1) (somewhere left 64))
+          (λ t. T-true _ (→apart (2 ^ n - 1) (somewhere left 64) (λ k b.
           let h = ltb-true k n (sym (bit-below n k) ∙ b) in
-          →everywhere came 64 k (omega arith) (λ e g. held k e h g (λ j c m. true-T _ (each→ (hasCome came) (stepsBy n vlr iotas) t (k * 64 + j) (step→mem (k * 64 + j) (step-at k j h c))))))))
-          (λ t. →each (hasCome came) (stepsBy n vlr iotas) (λ a mem.
+          →somewhere left 64 k (λ e g. held k e h g (λ j c m. true-T _ (each→ (hasCome left) (stepsBy n vlr iotas) t (k * 64 + j) (step→mem (k * 64 + j) (step-at k j h c))))))))
+          (λ t. →each (hasCome left) (stepsBy n vlr iotas) (λ a mem.
           let s = mem→step a mem in
-          T-true _ (everywhere→ came 64 (position a) (within→ (2 ^ n - 1) (everywhere came 64) (true-T _ t) (position a) (bit-below n (position a) ∙ lt-ltb (position a) n (s .at))) (element a) (omega arith))))
+          T-true _ (somewhere→ left 64 (position a) (apart→ (2 ^ n - 1) (somewhere left 64) (true-T _ t) (position a) (bit-below n (position a) ∙ lt-ltb (position a) n (s .at))) (element a) (omega arith))))
 
-      pub list-ends : length list ≤ i → (all : ℕ) (r b : Bool) → all ≡ everywhere came 64 → r ≡ within (1 * 2 ^ n % 18446744073709551616 - 1) all → r ≡ b → pick b Permitted (Refused i) ≡ verdictBy n vlr iotas bound list
+      pub list-ends : length list ≤ i → (v : Verdict) → v ≡ pick (apart (2 ^ n - 1) (somewhere left 64)) Permitted (Refused i) → v ≡ verdictBy n vlr iotas bound list
       unfolding verdictBy
-      list-ends h all r b e f g =
-          ap (λ (t : Bool). pick t Permitted (Refused i)) (sym g ∙ f ∙ ap₂ (λ (s t : ℕ). within (s - 1) t) (one-shifted n 64 (omega arith)) e ∙ sym complete)
-          ∙ sym (check-end (followsBy iotas bound) (stepsBy n vlr iotas) list (hasCome came) i (inv .on) h)
+      list-ends h v e =
+          e ∙ ap (λ (t : Bool). pick t Permitted (Refused i)) (sym complete)
+          ∙ sym (check-end (followsBy iotas bound) (stepsBy n vlr iotas) list (hasCome left) i (inv .on) h)
 
       -- ---- an entry that may come
-      module _ (h : i < length list) (may : mayCome n iotas bound came (getD list i 0) ≡ true) where
+      module _ (h : i < length list) (may : mayCome n iotas bound left (getD list i 0) ≡ true) where
         entry-step : IsStep n vlr iotas (getD list i 0)
         unfolding mayBy
         entry-step = mem→step (getD list i 0) (has→mem (getD list i 0) (stepsBy n vlr iotas) (T-true _ (both (has (getD list i 0) (stepsBy n vlr iotas)) _ (may-same (getD list i 0) ∙ may) .0)))
 
-        module _ (came′ : List ℕ) (comes : Came (bit iotas (position (getD list i 0))) (getD list i 0) came came′) where
+        module _ (left′ : List ℕ) (comes : Came (bit iotas (position (getD list i 0))) (getD list i 0) left left′) where
           abbrev x : ℕ
           x = getD list i 0
 
-          new-bit : (e k : ℕ) → e < 64 → bit (getD came′ e 0) k ≡ ((bit iotas (position (getD list i 0)) || eqb e (element (getD list i 0))) && eqb k (position (getD list i 0)) || bit (getD came e 0) k)
-          new-bit e k g = ap (λ (v : ℕ). bit v k) (comes .sets e g) ∙ bit-joined-if (bit iotas (position x) || eqb e (element x)) (getD came e 0) (position x) k
+          new-bit : (e k : ℕ) → e < 64 → gone left′ e k ≡ ((bit iotas (position (getD list i 0)) || eqb e (element (getD list i 0))) && eqb k (position (getD list i 0)) || gone left e k)
+          new-bit = comes .sets
 
           -- no other step has come with it
           alone : (y : ℕ) → IsStep n vlr iotas y → ((bit iotas (position (getD list i 0)) || eqb (element y) (element (getD list i 0))) && eqb (position y) (position (getD list i 0))) ≡ eqb y (getD list i 0)
@@ -338,55 +349,84 @@ module _ (n vlr iotas : ℕ) (few : n ≤ 16) (short : vlr ≤ 64) where
                   ap₂ (λ (u v : Bool). (u || v) && eqb (position y) (position (getD list i 0))) z (ne-eqb (element y) (element (getD list i 0)) (λ w. e (omega arith)))
                   ∙ sym (ne-eqb y (getD list i 0) e)
 
-          pub entry-comes : Marked n vlr iotas bound list came′ (i + 1)
+          pub entry-comes : Marked n vlr iotas bound list left′ (i + 1)
           entry-comes = record {
             long = comes .long ∙ inv .long;
-            on = check-on (followsBy iotas bound) (stepsBy n vlr iotas) list (hasCome came) i (inv .on) h (may-same x ∙ may) (hasCome came′) (λ y m. new-bit (element y) (position y) (omega arith) ∙ ap (λ (b : Bool). b || hasCome came y) (alone y (mem→step y m)));
+            on = check-on (followsBy iotas bound) (stepsBy n vlr iotas) list (hasCome left) i (inv .on) h (may-same x ∙ may) (hasCome left′) (λ y m. new-bit (element y) (position y) (omega arith) ∙ ap (λ (b : Bool). b || hasCome left y) (alone y (mem→step y m)));
             beyond = λ k e l z a b. new-bit e k b ∙ ap (λ (t : Bool). (bit iotas (position x) || eqb e (element x)) && eqb k (position x) || t) (inv .beyond k e l z a b) ∙ or-always ((bit iotas (position x) || eqb e (element x)) && eqb k (position x));
             alike = λ k e l z g. new-bit e k g ∙ both-ways k e l z g (ℕ-discrete k (position x)) ∙ sym (new-bit 0 k (omega arith));
+            never-gone = never-stays (bit iotas (position x)) x left left′ (let h = entry-step .at in omega arith) comes (inv .never-gone);
           }
             where
               both-ways : (k e : ℕ) → k < n → bit iotas k ≡ true → e < 64 → Dec (k ≡ position (getD list i 0))
-                  → ((bit iotas (position (getD list i 0)) || eqb e (element (getD list i 0))) && eqb k (position (getD list i 0)) || bit (getD came e 0) k)
-                  ≡ ((bit iotas (position (getD list i 0)) || eqb 0 (element (getD list i 0))) && eqb k (position (getD list i 0)) || bit (getD came 0 0) k)
+                  → ((bit iotas (position (getD list i 0)) || eqb e (element (getD list i 0))) && eqb k (position (getD list i 0)) || gone left e k)
+                  ≡ ((bit iotas (position (getD list i 0)) || eqb 0 (element (getD list i 0))) && eqb k (position (getD list i 0)) || gone left 0 k)
               both-ways k e l z g (yes d) =
                   let y : bit iotas (position (getD list i 0)) ≡ true = ap (bit iotas) (sym d) ∙ z in
-                  ap₂ (λ (u v : Bool). (u || eqb e (element (getD list i 0))) && v || bit (getD came e 0) k) y (eq-eqb k (position (getD list i 0)) d)
-                  ∙ sym (ap₂ (λ (u v : Bool). (u || eqb 0 (element (getD list i 0))) && v || bit (getD came 0 0) k) y (eq-eqb k (position (getD list i 0)) d))
+                  ap₂ (λ (u v : Bool). (u || eqb e (element (getD list i 0))) && v || gone left e k) y (eq-eqb k (position (getD list i 0)) d)
+                  ∙ sym (ap₂ (λ (u v : Bool). (u || eqb 0 (element (getD list i 0))) && v || gone left 0 k) y (eq-eqb k (position (getD list i 0)) d))
               both-ways k e l z g (no d) =
-                  aside (bit iotas (position (getD list i 0)) || eqb e (element (getD list i 0))) (bit (getD came e 0) k)
+                  aside (bit iotas (position (getD list i 0)) || eqb e (element (getD list i 0))) (gone left e k)
                   ∙ inv .alike k e l z g
-                  ∙ sym (aside (bit iotas (position (getD list i 0)) || eqb 0 (element (getD list i 0))) (bit (getD came 0 0) k))
+                  ∙ sym (aside (bit iotas (position (getD list i 0)) || eqb 0 (element (getD list i 0))) (gone left 0 k))
                 where
                   aside : (a b : Bool) → (a && eqb k (position (getD list i 0)) || b) ≡ b
                   aside a b = ap (λ (v : Bool). a && v || b) (ne-eqb k (position (getD list i 0)) d) ∙ ap (λ (v : Bool). v || b) (and-none a)
 
+    -- ---- entries that come one after the other
+    module _ (list left : List ℕ) (i : ℕ) (inv : Marked n vlr iotas bound list left i) where
+      entries-come : (k : ℕ) (left′ : List ℕ) → i + k ≤ length list → ComeOn n iotas bound list left i left′ k → Marked n vlr iotas bound list left′ (i + k)
+      unfolding ComeOn
+      entries-come zero left′ h c = subst (Marked n vlr iotas bound list left′) none (subst (λ (l : List ℕ). Marked n vlr iotas bound list l i) (sym c) inv)
+        where
+          none : i ≡ i + 0
+          none = omega arith
+      entries-come (suc k) left′ h c =
+          subst (Marked n vlr iotas bound list left′) more
+          (entry-comes list (c .left) (i + k) (entries-come k (c .left) (omega arith) (c .so-far)) (omega arith) (c .comes .may) left′ (c .comes .came))
+        where
+          more : i + k + 1 ≡ i + suc k
+          more = omega arith
+
+      pub come-marked : (left′ : List ℕ) (j : ℕ) → ComeFrom n iotas bound list left i left′ j → Marked n vlr iotas bound list left′ j
+      come-marked left′ j c =
+          let f = c .forth in let g = c .inside in let there : i + (j - i) ≡ j = omega arith in
+          subst (Marked n vlr iotas bound list left′) there (entries-come (j - i) left′ (omega arith) (c .on))
+
     -- ---- at the start nothing has come
-    module _ (fits : iotas < 2 ^ 64) (list came : List ℕ) (starts : Started vlr iotas (replicate 64 0) came) where
-      low : (e k : ℕ) → e < vlr → bit (getD came e 0) k ≡ false
-      low e k h = ap (λ (v : ℕ). bit v k) (starts .low e h ∙ zeros 64 e) ∙ bit-none k
+    module _ (list left : List ℕ) (starts : Started vlr iotas (replicate 64 18446744073709551615) left) where
+      low : (e k : ℕ) → k < 64 → e < vlr → gone left e k ≡ false
+      low e k h l = ap not (ap (λ (v : ℕ). bit v k) (starts .low e l ∙ getD-replicate 64 e 18446744073709551615 0 (omega arith)) ∙ bit-below 64 k ∙ lt-ltb k 64 h)
 
-      high : (e k : ℕ) → k < n → vlr ≤ e → e < 64 → bit (getD came e 0) k ≡ not (bit iotas k)
-      high e k h l g = ap (λ (v : ℕ). bit v k) (starts .high e l g) ∙ bit-complement 64 iotas k fits (omega arith)
+      high : (e k : ℕ) → vlr ≤ e → e < 64 → gone left e k ≡ not (eqb k never || bit iotas k)
+      high e k l g = ap not (ap (λ (v : ℕ). bit v k) (starts .high e l g) ∙ bit-joined iotas never k)
 
-      off : (e k : ℕ) → k < n → bit iotas k ≡ true → e < 64 → bit (getD came e 0) k ≡ false
+      high-at : (e k : ℕ) → k < n → vlr ≤ e → e < 64 → gone left e k ≡ not (bit iotas k)
+      high-at e k h l g = high e k l g ∙ ap (λ (t : Bool). not (t || bit iotas k)) (ne-eqb k never (λ z. omega arith))
+
+      off : (e k : ℕ) → k < n → bit iotas k ≡ true → e < 64 → gone left e k ≡ false
       off e k h z g = go (decLt e vlr)
         where
-          go : Dec (e < vlr) → bit (getD came e 0) k ≡ false
-          go (yes l) = low e k l
-          go (no l) = high e k h (omega arith) g ∙ ap not z
+          go : Dec (e < vlr) → gone left e k ≡ false
+          go (yes l) = low e k (omega arith) l
+          go (no l) = high-at e k h (omega arith) g ∙ ap not z
 
-      none-came : (y : ℕ) → IsStep n vlr iotas y → hasCome came y ≡ false
+      none-came : (y : ℕ) → IsStep n vlr iotas y → hasCome left y ≡ false
       none-came y s = go (bit iotas (position y)) refl
         where
-          go : (b : Bool) → bit iotas (position y) ≡ b → hasCome came y ≡ false
+          go : (b : Bool) → bit iotas (position y) ≡ b → hasCome left y ≡ false
           go true z = off (element y) (position y) (s .at) z (omega arith)
-          go false z = low (element y) (position y) (subst (λ (b : Bool). element y < pick b 1 vlr) z (s .of))
+          go false z = let h = s .at in low (element y) (position y) (omega arith) (subst (λ (b : Bool). element y < pick b 1 vlr) z (s .of))
 
-      pub pass-starts : Marked n vlr iotas bound list came 0
+      pub pass-starts : Marked n vlr iotas bound list left 0
       pass-starts = record {
         long = starts .long;
-        on = check-start (followsBy iotas bound) (stepsBy n vlr iotas) list (hasCome came) (λ y m. none-came y (mem→step y m));
-        beyond = λ k e h z l g. high e k h l g ∙ ap not z;
+        on = check-start (followsBy iotas bound) (stepsBy n vlr iotas) list (hasCome left) (λ y m. none-came y (mem→step y m));
+        beyond = λ k e h z l g. high-at e k h l g ∙ ap not z;
         alike = λ k e h z g. off e k h z g ∙ sym (off 0 k h z (omega arith));
+        never-gone = λ e g. go e g (decLt e vlr);
       }
+        where
+          go : (e : ℕ) → e < 64 → Dec (e < vlr) → gone left e never ≡ false
+          go e g (yes l) = low e never (omega arith) l
+          go e g (no l) = high e never (omega arith) g

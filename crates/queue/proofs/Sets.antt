@@ -1,18 +1,19 @@
 -- Sets of positions: a number whose bit k says that k is in it. Assumes nothing.
 use mathlib.Core.Path.{_≡_, refl, sym, ap, ap₂, _∙_}
-use mathlib.Core.Bool.{Bool, true, false, _&&_, _||_}
+use mathlib.Core.Bool.{Bool, Bool·beq, true, false, not, _&&_, _||_}
 use Prim.Native.Nat.{ℕ, suc, _+_, _-_, _*_, _/_, _%_, _^_, _<_}
 use native.Mathlib.Nat.{mul-mod-left, pow-suc, div-eq-of-lt, zero-div}
 use native.Mathlib.Omega.{arith}
-use native.Mathlib.Decide.{decLt}
+use native.Mathlib.Decide.{ℕ-discrete, decLt}
 use borrow.Author.Tests.{eq-eqb, ne-eqb, eqb-true, lt-ltb, le-ltb}
 use lib.Dec.{eqb, ltb}
-use lib.Bits.{bitOr}
+use lib.Bits.{bitAnd, bitXor}
 use lib.Pow.{shl-shr, pow-add, pow-lt, pow-pos}
+use Rattle.numbers.specs.Choice.{pick}
 use Rattle.numbers.specs.Bits.{bit}
 use Rattle.numbers.proofs.BitLaws.{digit-complement, bit-above}
-use Rattle.numbers.proofs.Sets.{same-bits, bit-or, bit-none}
-use Rattle.queue.specs.Tables.{joined, joinedIf, within}
+use Rattle.numbers.proofs.Sets.{same-bits, bit-or, bit-and, bit-xor, bit-none}
+use Rattle.queue.specs.Tables.{joined, parted, apart}
 
 -- a set of one position
 pow-same : (e : ℕ) → 2 ^ e / 2 ^ e % 2 ≡ 1
@@ -51,7 +52,10 @@ or-swap false false = refl
 pub bit-joined : (s k j : ℕ) → bit (joined s k) j ≡ (eqb j k || bit s j)
 bit-joined s k j = bit-or s (2 ^ k) j ∙ or-swap (bit s j) (bit (2 ^ k) j) ∙ ap (λ (t : Bool). t || bit s j) (bit-one k j)
 
-pub bit-joined-if : (t : Bool) (s k j : ℕ) → bit (joinedIf t s k) j ≡ (t && eqb j k || bit s j)
+abbrev joinedIf : Bool → ℕ → ℕ → ℕ
+joinedIf t s k = pick t (joined s k) s
+
+bit-joined-if : (t : Bool) (s k j : ℕ) → bit (joinedIf t s k) j ≡ (t && eqb j k || bit s j)
 bit-joined-if true s k j = bit-joined s k j
 bit-joined-if false s k j = refl
 
@@ -72,18 +76,54 @@ bit-below n k = go (decLt k n)
         ∙ sym (lt-ltb k n h)
     go (no h) = bit-above (2 ^ n - 1) n k (let s = small in omega arith) (omega arith) ∙ sym (le-ltb k n (omega arith))
 
--- ---- one set within another
-pub within→ : (a b : ℕ) → within a b ≡ true → (k : ℕ) → bit a k ≡ true → bit b k ≡ true
-within→ a b e k h =
-    ap (λ (n : ℕ). bit n k) (sym (eqb-true (bitOr a b) b e)) ∙ bit-or a b k ∙ ap (λ (t : Bool). t || bit b k) h
+pub not-not : (b : Bool) → not (not b) ≡ b
+not-not true = refl
+not-not false = refl
 
-absorbs : (s t : Bool) → (s ≡ true → t ≡ true) → (s || t) ≡ t
-absorbs true t f = sym (f refl)
-absorbs false t f = refl
+-- a position leaves a set
+pub bit-parted : (s k j : ℕ) → not (bit (parted s k) j) ≡ (eqb j k || not (bit s j))
+bit-parted s k j =
+    ap not (bit-xor (joined s k) (2 ^ k) j ∙ ap₂ (λ (t u : Bool). not (Bool·beq t u)) (bit-joined s k j) (bit-one k j))
+    ∙ go (eqb j k) (bit s j)
+  where
+    go : (t b : Bool) → not (not (Bool·beq (t || b) t)) ≡ (t || not b)
+    go true true = refl
+    go true false = refl
+    go false true = refl
+    go false false = refl
 
-pub →within : (a b : ℕ) → ((k : ℕ) → bit a k ≡ true → bit b k ≡ true) → within a b ≡ true
-→within a b f =
-    eq-eqb (bitOr a b) b (same-bits (bitOr a b) b (λ k. bit-or a b k ∙ absorbs (bit a k) (bit b k) (f k)))
+-- a position is turned in a set
+pub bit-turned : (s k j : ℕ) → bit (bitXor s (2 ^ k)) j ≡ not (Bool·beq (bit s j) (eqb j k))
+bit-turned s k j = bit-xor s (2 ^ k) j ∙ ap (λ (t : Bool). not (Bool·beq (bit s j) t)) (bit-one k j)
+
+-- one that is in it leaves it
+pub turned-out : (s k : ℕ) → bit s k ≡ true → (j : ℕ) → not (bit (bitXor s (2 ^ k)) j) ≡ (eqb j k || not (bit s j))
+turned-out s k e j = ap not (bit-turned s k j) ∙ at (ℕ-discrete j k)
+  where
+    other : (b : Bool) → not (not (Bool·beq b false)) ≡ not b
+    other true = refl
+    other false = refl
+
+    at : Dec (j ≡ k) → not (not (Bool·beq (bit s j) (eqb j k))) ≡ (eqb j k || not (bit s j))
+    at (yes z) =
+        ap₂ (λ (b t : Bool). not (not (Bool·beq b t))) (ap (bit s) z ∙ e) (eq-eqb j k z)
+        ∙ sym (ap (λ (t : Bool). t || not (bit s j)) (eq-eqb j k z))
+    at (no z) =
+        ap (λ (t : Bool). not (not (Bool·beq (bit s j) t))) (ne-eqb j k z)
+        ∙ other (bit s j)
+        ∙ sym (ap (λ (t : Bool). t || not (bit s j)) (ne-eqb j k z))
+
+-- ---- sets without a common position
+pub apart→ : (a b : ℕ) → apart a b ≡ true → (k : ℕ) → bit a k ≡ true → not (bit b k) ≡ true
+apart→ a b e k h =
+    ap not (sym (ap (λ (t : Bool). t && bit b k) h) ∙ sym (bit-and a b k) ∙ ap (λ (n : ℕ). bit n k) (eqb-true (bitAnd a b) 0 e) ∙ bit-none k)
+
+pub →apart : (a b : ℕ) → ((k : ℕ) → bit a k ≡ true → not (bit b k) ≡ true) → apart a b ≡ true
+→apart a b f = eq-eqb (bitAnd a b) 0 (same-bits (bitAnd a b) 0 (λ k. bit-and a b k ∙ go k (bit a k) (bit b k) refl refl ∙ sym (bit-none k)))
+  where
+    go : (k : ℕ) (s t : Bool) → bit a k ≡ s → bit b k ≡ t → (s && t) ≡ false
+    go k false t e g = refl
+    go k true t e g = sym (not-not t) ∙ ap not (ap not (sym g) ∙ f k e)
 
 -- ---- a set that a loop builds: after k turns it has the positions below k that pass the test
 pub Built : (ℕ → Bool) → ℕ → ℕ → Type 0

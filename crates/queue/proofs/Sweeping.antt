@@ -4,12 +4,11 @@ use mathlib.Core.List.{List}
 use Prim.Native.Nat.{ℕ, _+_, _*_, _%_, _^_, _<_, _≤_}
 use native.Mathlib.Omega.{arith}
 use native.Mathlib.Decide.{ℕ-discrete}
-use lib.Bits.{bitOr}
+use lib.Bits.{bitOr, bitXor}
 use lib.ListN.{length, getD, set, length-set}
 use lib.Seq.{getD-set-same, getD-set-other}
-use Rattle.numbers.specs.Bits.{complement}
-use Rattle.queue.specs.Tables.{joined, Started}
-use Rattle.queue.proofs.Touching.{shifted}
+use Rattle.numbers.proofs.BitLaws.{one-shifted}
+use Rattle.queue.specs.Tables.{joined, parted, never, Started}
 
 module _ (old : List ℕ) (from : ℕ) (new : ℕ → ℕ) where
   -- before element e
@@ -42,12 +41,12 @@ module _ (old : List ℕ) (from : ℕ) (new : ℕ → ℕ) where
       go j g l (no z) = getD-set-other table e j v 0 z ∙ s .written j g (omega arith)
 
 -- at the start
-pub starts : (old : List ℕ) (vlr iotas : ℕ) (table : List ℕ) (e : ℕ) → Swept old vlr (λ (j : ℕ). complement 64 iotas) table e → 64 ≤ e → Started vlr iotas old table
+pub starts : (old : List ℕ) (vlr iotas : ℕ) (table : List ℕ) (e : ℕ) → Swept old vlr (λ (j : ℕ). joined iotas never) table e → 64 ≤ e → Started vlr iotas old table
 starts old vlr iotas table e s h = record { long = s .long; low = s .low; high = λ j g l. s .written j g (omega arith) }
 
--- a position joins each set
-pub joins-each : (old : List ℕ) (p : ℕ) (table : List ℕ) (e : ℕ) → length old ≡ 64 → p < 64 → e < 64 → Swept old 0 (λ (j : ℕ). joined (getD old j 0) p) table e
-    → Swept old 0 (λ (j : ℕ). joined (getD old j 0) p) (set table e (bitOr (getD table e 0) (1 * 2 ^ p % 18446744073709551616))) (e + 1)
-joins-each old p table e l h g s =
-    swept-more old 0 (λ (j : ℕ). joined (getD old j 0) p) table e (bitOr (getD table e 0) (1 * 2 ^ p % 18446744073709551616)) s (omega arith)
-    (shifted (getD table e 0) p h ∙ ap (λ (v : ℕ). joined v p) (s .left e (omega arith)))
+-- a position leaves each set
+pub leaves-each : (old : List ℕ) (p : ℕ) (table : List ℕ) (e : ℕ) → length old ≡ 64 → p < 64 → e < 64 → Swept old 0 (λ (j : ℕ). parted (getD old j 0) p) table e
+    → Swept old 0 (λ (j : ℕ). parted (getD old j 0) p) (set table e (bitXor (bitOr (getD table e 0) (1 * 2 ^ p % 18446744073709551616)) (1 * 2 ^ p % 18446744073709551616))) (e + 1)
+leaves-each old p table e l h g s =
+    swept-more old 0 (λ (j : ℕ). parted (getD old j 0) p) table e (bitXor (bitOr (getD table e 0) (1 * 2 ^ p % 18446744073709551616)) (1 * 2 ^ p % 18446744073709551616)) s (omega arith)
+    (ap (λ (v : ℕ). bitXor (bitOr (getD table e 0) v) v) (one-shifted p 64 h) ∙ ap (λ (v : ℕ). parted v p) (s .left e (omega arith)))

@@ -1,14 +1,14 @@
 -- What the code of a queue computes with: the check's tables (proofs/Verdicts.antt proves that they give the check of specs/Order.antt), the runs (proofs/Calls.antt)
 -- and acceptance (proofs/Accepting.antt). A set of positions is a number whose bit k says that position k is in it. No public promise cites this.
 use mathlib.Core.Path.{_≡_}
-use mathlib.Core.Bool.{Bool, true, not, _&&_, _||_}
+use mathlib.Core.Bool.{Bool, true, false, not, _&&_, _||_}
 use mathlib.Core.List.{List}
-use Prim.Native.Nat.{ℕ, zero, suc, _-_, _*_, _^_, _<_, _≤_}
+use Prim.Native.Nat.{ℕ, zero, suc, _+_, _-_, _*_, _^_, _<_, _≤_}
 use lib.Dec.{ltb, eqb}
-use lib.Bits.{bitAnd, bitOr}
+use lib.Bits.{bitAnd, bitOr, bitXor}
 use lib.ListN.{length, getD, set}
 use Rattle.numbers.specs.Choice.{pick}
-use Rattle.numbers.specs.Bits.{bit, complement}
+use Rattle.numbers.specs.Bits.{bit}
 use Rattle.numbers.specs.Rising.{rising}
 use Rattle.state.specs.declared.Control.{Control}
 use Rattle.state.specs.Answer.{Answer, done}
@@ -25,12 +25,13 @@ use Rattle.queue.specs.declared.Verdict.{Verdict}
 abbrev pub joined : ℕ → ℕ → ℕ
 joined s k = bitOr s (2 ^ k)
 
-abbrev pub joinedIf : Bool → ℕ → ℕ → ℕ
-joinedIf t s k = pick t (joined s k) s
+-- position k leaves a set
+abbrev pub parted : ℕ → ℕ → ℕ
+parted s k = bitXor (joined s k) (2 ^ k)
 
--- every position of the first set is in the second
-abbrev pub within : ℕ → ℕ → Bool
-within a b = eqb (bitOr a b) b
+-- no position is in both sets
+abbrev pub apart : ℕ → ℕ → Bool
+apart a b = eqb (bitAnd a b) 0
 
 -- the instruction at a position of a decoded queue
 abbrev pub decodedAt : List Instruction → ℕ → Instruction
@@ -111,41 +112,76 @@ followsBy iotas bound a x =
 unfoldable pub verdictBy : ℕ → ℕ → ℕ → List ℕ → List ℕ → Verdict
 verdictBy n vlr iotas bound list = check (followsBy iotas bound) (stepsBy n vlr iotas) list
 
--- ---- what has come: for each element the set of the positions that no step of it has to wait for any more
+-- ---- what is left: for each element the set of the positions that a step of it may still have to wait for
+-- element e waits for position k no more
+abbrev pub gone : List ℕ → ℕ → ℕ → Bool
+gone left e k = not (bit (getD left e 0) k)
+
 abbrev pub hasCome : List ℕ → ℕ → Bool
-hasCome came x = bit (getD came (element x) 0) (position x)
+hasCome left x = gone left (element x) (position x)
 
--- the positions that none of the first n elements has to wait for any more
-unfoldable pub everywhere : List ℕ → ℕ → ℕ
-everywhere came zero = 2 ^ 64 - 1
-everywhere came (suc n) = bitAnd (everywhere came n) (getD came n 0)
+-- the positions that one of the first n elements still waits for
+unfoldable pub somewhere : List ℕ → ℕ → ℕ
+somewhere left zero = 0
+somewhere left (suc n) = bitOr (somewhere left n) (getD left n 0)
 
--- position p has not come, and each that it is bound to has
+-- position p is left, and none that it is bound to is
 abbrev pub ready : ℕ → ℕ → ℕ → Bool
-ready bound came p = not (bit came p) && within bound came
+ready bound left p = bit left p && apart bound left
 
--- a position and those that it is bound to: its step may come where of these only itself has not. An IOTA's waits for every element, and has none here
+-- a position that no queue has: it is left at every element to the end
+abbrev pub never : ℕ
+never = 63
+
+-- a position and those that it is bound to: its step may come where of these only itself is left. An IOTA's step waits for every element: its group is one
+-- of which another position is always left
 abbrev pub groupOf : ℕ → List ℕ → ℕ → ℕ
-groupOf iotas bound k = pick (bit iotas k) 0 (joined (getD bound k 0) k)
+groupOf iotas bound k = pick (bit iotas k) (2 ^ never) (joined (getD bound k 0) k)
 
 -- x may come next: IOTA's one step waits for every element, any other for its own
 unfoldable pub mayCome : ℕ → ℕ → List ℕ → List ℕ → ℕ → Bool
-mayCome n iotas bound came x =
+mayCome n iotas bound left x =
     ltb (position x) n
     && pick (bit iotas (position x))
-    (eqb (element x) 0 && ready (getD bound (position x) 0) (everywhere came 64) (position x))
-    (ready (getD bound (position x) 0) (getD came (element x) 0) (position x))
+    (eqb (element x) 0 && ready (getD bound (position x) 0) (somewhere left 64) (position x))
+    (ready (getD bound (position x) 0) (getD left (element x) 0) (position x))
 
 -- the step x comes: that of an IOTA for every element
-pub record Came (iota : Bool) (x : ℕ) (came came′ : List ℕ) : Type 0 where
-  pub long : length came′ ≡ length came
-  pub sets : (e : ℕ) → e < 64 → getD came′ e 0 ≡ joinedIf (iota || eqb e (element x)) (getD came e 0) (position x)
+pub record Came (iota : Bool) (x : ℕ) (left left′ : List ℕ) : Type 0 where
+  pub long : length left′ ≡ length left
+  pub sets : (e k : ℕ) → e < 64 → gone left′ e k ≡ ((iota || eqb e (element x)) && eqb k (position x) || gone left e k)
 
--- at the start: for the elements from VLR on only IOTAs are still to come
-pub record Started (vlr iotas : ℕ) (came came′ : List ℕ) : Type 0 where
-  pub long : length came′ ≡ length came
-  pub low : (e : ℕ) → e < vlr → getD came′ e 0 ≡ getD came e 0
-  pub high : (e : ℕ) → vlr ≤ e → e < 64 → getD came′ e 0 ≡ complement 64 iotas
+-- x may come, and comes
+pub record Comes (n iotas : ℕ) (bound : List ℕ) (x : ℕ) (left left′ : List ℕ) : Type 0 where
+  pub may : mayCome n iotas bound left x ≡ true
+  pub came : Came (bit iotas (position x)) x left left′
+
+-- and so where it is seen to; else nothing has changed
+pub record Passed (seen : Bool) (n iotas : ℕ) (bound : List ℕ) (x : ℕ) (left left′ : List ℕ) : Type 0 where
+  pub comes : seen ≡ true → Comes n iotas bound x left left′
+  pub same : seen ≡ false → left′ ≡ left
+
+-- the k entries of a list from i on come, one after the other
+pub record After (before : List ℕ → Type 0) (n iotas : ℕ) (bound : List ℕ) (x : ℕ) (left′ : List ℕ) : Type 0 where
+  pub left : List ℕ
+  pub so-far : before left
+  pub comes : Comes n iotas bound x left left′
+
+unfoldable pub ComeOn : ℕ → ℕ → List ℕ → List ℕ → List ℕ → ℕ → List ℕ → ℕ → Type 0
+ComeOn n iotas bound list left i left′ zero = left′ ≡ left
+ComeOn n iotas bound list left i left′ (suc k) = After (λ (mid : List ℕ). ComeOn n iotas bound list left i mid k) n iotas bound (getD list (i + k) 0) left′
+
+-- those from i to j
+pub record ComeFrom (n iotas : ℕ) (bound list left : List ℕ) (i : ℕ) (left′ : List ℕ) (j : ℕ) : Type 0 where
+  pub forth : i ≤ j
+  pub inside : j ≤ length list
+  pub on : ComeOn n iotas bound list left i left′ (j - i)
+
+-- at the start: the elements from VLR on wait for IOTAs alone
+pub record Started (vlr iotas : ℕ) (left left′ : List ℕ) : Type 0 where
+  pub long : length left′ ≡ length left
+  pub low : (e : ℕ) → e < vlr → getD left′ e 0 ≡ getD left e 0
+  pub high : (e : ℕ) → vlr ≤ e → e < 64 → getD left′ e 0 ≡ joined iotas never
 
 -- ---- what a step of a decoded queue does
 unfoldable pub actBy : List Instruction → List ℕ → ℕ → Run → Run

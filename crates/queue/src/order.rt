@@ -1,92 +1,93 @@
-// The check of an order list: one pass, with sets of positions. A set is a number whose bit k says that position k is in it.
+// The check of an order list: one pass, with sets of positions. A set is a number whose bit k says that position k is in it. The table `left` has for each
+// element the positions that a step of it may still have to wait for.
 use crate::Verdict;
 use numbers::bits;
 ghost use mathlib.Core.Path.{_≡_};
 ghost use mathlib.Core.Bool.{true, false, _&&_};
-ghost use Prim.Native.Nat.{ℕ, _≤_, _<_};
+ghost use Prim.Native.Nat.{ℕ, _≤_, _<_, _^_, _-_};
 ghost use lib.Dec.{eqb};
-ghost use lib.Bits.{bitAnd};
 ghost use lib.ListN.{length, getD, set};
 ghost use Rattle.numbers.specs.Choice.{pick};
-ghost use Rattle.numbers.specs.Bits.{bit, complement};
+ghost use Rattle.numbers.specs.Bits.{bit};
+ghost use Rattle.queue.specs.declared.Verdict.the-variants.{Permitted, Refused};
 ghost use Rattle.queue.specs.Touch.{position, element};
-ghost use Rattle.queue.specs.Tables.{joined, within as withinOf, everywhere as everywhereOf, ready as readyOf, groupOf, mayCome, Came, Started, verdictBy};
+ghost use Rattle.queue.specs.Tables.{joined, parted, apart as apartOf, gone, somewhere as somewhereOf, ready as readyOf, never, groupOf, mayCome, Came, Passed, ComeFrom, Started, verdictBy};
 
-// Every position of the first set is in the second.
-fn within(a: u64, b: u64) -> bool
-    ensures { λ r. ⌜ r ≡ withinOf a b ⌝ }
+// No position is in both sets.
+fn apart(a: u64, b: u64) -> bool
+    ensures { λ r. ⌜ r ≡ apartOf a b ⌝ }
 {
-    (a | b) == b
+    (a & b) == 0
 }
 
-// At the start nothing has come; for the elements from VLR on only IOTAs are still to come.
-fn start(came: &mut [u64; 64], vlr: u64, iotas: u64)
-    requires { ⌜ (length (now came) ≡ 64) × (vlr ≤ 64) ⌝ }
-    ensures { λ r. ⌜ Started vlr iotas (now (came .entry)) (now (came .exit)) ⌝ }
+// At the start all is left; but the elements from VLR on wait for IOTAs alone.
+fn start(left: &mut [u64; 64], vlr: u64, iotas: u64)
+    requires { ⌜ (length (now left) ≡ 64) × (vlr ≤ 64) ⌝ }
+    ensures { λ r. ⌜ Started vlr iotas (now (left .entry)) (now (left .exit)) ⌝ }
 {
     let mut e = vlr as usize;
     while e < 64 {
-        came[e] = !iotas;
+        left[e] = iotas | (1 << 63);
         e += 1;
     }
 }
 
-// The positions that no element has to wait for any more.
-fn everywhere(came: &[u64; 64]) -> u64
-    ensures { λ r. ⌜ r ≡ everywhereOf (now (came .entry)) 64 ⌝ }
+// The positions that some element still waits for.
+fn somewhere(left: &[u64; 64]) -> u64
+    ensures { λ r. ⌜ r ≡ somewhereOf (now (left .entry)) 64 ⌝ }
 {
-    let mut all: u64 = 18446744073709551615;
+    let mut any: u64 = 0;
     let mut e: usize = 0;
     while e < 64 {
-        all = all & came[e];
+        any = any | left[e];
         e += 1;
     }
-    all
+    any
 }
 
-// No element has to wait for position p any more.
-fn release(came: &mut [u64; 64], p: usize)
-    requires { ⌜ (length (now came) ≡ 64) × (p < 64) ⌝ }
-    ensures { λ r. ⌜ (length (now (came .exit)) ≡ 64) × ((e : ℕ) → e < 64 → getD (now (came .exit)) e 0 ≡ joined (getD (now (came .entry)) e 0) p) ⌝ }
+// No element waits for position p any more.
+fn release(left: &mut [u64; 64], p: usize)
+    requires { ⌜ (length (now left) ≡ 64) × (p < 64) ⌝ }
+    ensures { λ r. ⌜ (length (now (left .exit)) ≡ 64) × ((e : ℕ) → e < 64 → getD (now (left .exit)) e 0 ≡ parted (getD (now (left .entry)) e 0) p) ⌝ }
 {
     let mut e: usize = 0;
     while e < 64 {
-        came[e] = came[e] | (1 << p);
+        left[e] = (left[e] | (1 << p)) ^ (1 << p);
         e += 1;
     }
 }
 
-// Position p has not come, and each that it is bound to has.
-fn ready(bound: u64, came: u64, p: usize) -> bool
+// Position p is left, and none that it is bound to is.
+fn ready(bound: u64, left: u64, p: usize) -> bool
     requires { ⌜ p < 64 ⌝ }
-    ensures { λ r. ⌜ r ≡ readyOf bound came p ⌝ }
+    ensures { λ r. ⌜ r ≡ readyOf bound left p ⌝ }
 {
-    !bits::bit(came, p) & within(bound, came)
+    bits::bit(left, p) & apart(bound, left)
 }
 
 // The IOTA of entry x comes, if it may.
-fn iota_comes(came: &mut [u64; 64], bound: u64, x: u64) -> bool
-    requires { ⌜ (length (now came) ≡ 64) × (position x < 16) ⌝ }
-    ensures { λ r. ⌜ (r ≡ (eqb (element x) 0 && readyOf bound (everywhereOf (now (came .entry)) 64) (position x))) × (r ≡ true → Came true x (now (came .entry)) (now (came .exit))) ⌝ }
+fn iota_comes(left: &mut [u64; 64], bound: u64, x: u64) -> bool
+    requires { ⌜ (length (now left) ≡ 64) × (position x < 16) ⌝ }
+    ensures { λ r. ⌜ (r ≡ (eqb (element x) 0 && readyOf bound (somewhereOf (now (left .entry)) 64) (position x))) × (r ≡ true → Came true x (now (left .entry)) (now (left .exit))) ⌝ }
 {
     let p = (x / 64) as usize;
     if x % 64 != 0 {
         return false;
     }
-    if !ready(bound, everywhere(&*came), p) {
+    if !ready(bound, somewhere(&*left), p) {
         return false;
     }
-    release(&mut *came, p);
+    release(&mut *left, p);
     true
 }
 
-// A position's group: itself and those that it is bound to, or none of an IOTA's.
+// A position's group: itself and those that it is bound to. An IOTA's is one of which a position is always left.
 fn group(iota: bool, bound: u64, p: usize) -> u64
     requires { ⌜ p < 64 ⌝ }
-    ensures { λ r. ⌜ r ≡ pick iota 0 (joined bound p) ⌝ }
+    ensures { λ r. ⌜ r ≡ pick iota (2 ^ never) (joined bound p) ⌝ }
 {
     if iota {
-        return 0;
+        return 1 << 63;
     }
     bound | (1 << p)
 }
@@ -103,36 +104,49 @@ fn fill(groups: &mut [u64; 16], n: usize, iotas: u64, bound: &[u64; 16])
     }
 }
 
-// The set of element e, which is then the one that is kept out of the table.
-fn fetch(came: &mut [u64; 64], at: usize, kept: u64, e: usize) -> u64
-    requires { ⌜ (length (now came) ≡ 64) × (at < 64) × (e < 64) ⌝ }
-    ensures { λ r. ⌜ set (now (came .exit)) e r ≡ set (now (came .entry)) at kept ⌝ }
+// The entry x comes, if it may.
+fn comes(left: &mut [u64; 64], n: usize, iotas: u64, bound: &[u64; 16], x: u64) -> bool
+    requires { ⌜ (length (now left) ≡ 64) × (n ≤ 16) ⌝ }
+    ensures { λ r. ⌜ (r ≡ mayCome n iotas (now (bound .entry)) (now (left .entry)) x) × (r ≡ true → Came (bit iotas (position x)) x (now (left .entry)) (now (left .exit))) ⌝ }
+{
+    let p = (x / 64) as usize;
+    let e = (x % 64) as usize;
+    if p >= n {
+        return false;
+    }
+    if bits::bit(iotas, p) {
+        return iota_comes(left, bound[p], x);
+    }
+    let here = left[e];
+    if !ready(bound[p], here, p) {
+        return false;
+    }
+    left[e] = here ^ (1 << p);
+    true
+}
+
+// The set of element e. That of element `at` is at hand: just stored, it would have to be waited for.
+fn fetch(left: &[u64; 64], at: usize, kept: u64, e: usize) -> u64
+    requires { ⌜ (getD (now left) at 0 ≡ kept) × (e < 64) ⌝ }
+    ensures { λ r. ⌜ r ≡ getD (now (left .entry)) e 0 ⌝ }
 {
     if e == at {
         return kept;
     }
-    came[at] = kept;
-    came[e]
+    left[e]
 }
 
-// Of a group, the positions that are still to come.
-fn missing(group: u64, came: u64) -> u64
-    ensures { λ r. ⌜ r ≡ bitAnd group (complement 64 came) ⌝ }
-{
-    group & !came
-}
-
-// Whether an entry may come; and the element whose set is kept out of the table, with the set.
+// Whether an entry is seen to come; and an element whose set is at hand, with the set.
 struct Pass {
-    may: bool,
+    seen: bool,
     at: usize,
     kept: u64,
 }
 
-// The entry x comes, if it may. The set of the last entry's element is kept out of the table: in it, each of an element's entries in a row would wait
-// until the one before has been stored.
+// Entry x is seen to come, and comes, where nothing of its group is left once its position is turned in its element's set. The set of element `at` is at
+// hand.
 fn passes(
-    came: &mut [u64; 64],
+    left: &mut [u64; 64],
     n: usize,
     iotas: u64,
     bound: &[u64; 16],
@@ -141,43 +155,90 @@ fn passes(
     kept: u64,
     x: u64,
 ) -> Pass
-    requires { ⌜ (length (now came) ≡ 64) × (n ≤ 16) × (at < 64) ⌝ }
+    requires { ⌜ (length (now left) ≡ 64) × (n ≤ 16) × (getD (now left) at 0 ≡ kept) ⌝ }
     requires { ⌜ ((p k : ℕ) → p < n → bit (getD (now bound) p 0) k ≡ true → k < p) ⌝ }
     requires { ⌜ ((p : ℕ) → p < n → getD (now groups) p 0 ≡ groupOf iotas (now bound) p) ⌝ }
-    ensures { λ r. ⌜ (r .may ≡ mayCome n iotas (now (bound .entry)) (set (now (came .entry)) at kept) x) × (r .may ≡ true → (r .at < 64) × Came (bit iotas (position x)) x (set (now (came .entry)) at kept) (set (now (came .exit)) (r .at) (r .kept))) ⌝ }
+    requires { ⌜ ((e : ℕ) → e < 64 → gone (now left) e never ≡ false) ⌝ }
+    ensures { λ r. ⌜ Passed (r .seen) n iotas (now (bound .entry)) x (now (left .entry)) (now (left .exit)) × (getD (now (left .exit)) (r .at) 0 ≡ r .kept) ⌝ }
 {
     let p = (x / 64) as usize;
     let e = (x % 64) as usize;
     if p >= n {
         return Pass {
-            may: false,
+            seen: false,
             at,
             kept,
         };
     }
-    let here = fetch(&mut *came, at, kept, e);
-    let left = missing(groups[p], here);
-    if left == 1 << p {
+    let here = fetch(&*left, at, kept, e);
+    let turned = here ^ (1 << p);
+    if !apart(groups[p], turned) {
         return Pass {
-            may: true,
-            at: e,
-            kept: here | left,
+            seen: false,
+            at,
+            kept,
         };
     }
-    if !bits::bit(iotas, p) {
-        return Pass {
-            may: false,
-            at: e,
-            kept: here,
-        };
-    }
-    came[e] = here;
-    let may = iota_comes(&mut *came, bound[p], x);
+    left[e] = turned;
     Pass {
-        may,
+        seen: true,
         at: e,
-        kept: came[e],
+        kept: turned,
     }
+}
+
+// The entries from `from` on come in twos, as long as both are seen to: the entry that it stops at. The second finds the first one's set at hand.
+fn ahead(
+    left: &mut [u64; 64],
+    n: usize,
+    iotas: u64,
+    bound: &[u64; 16],
+    groups: &[u64; 16],
+    list: &[u64],
+    from: usize,
+) -> usize
+    requires { ⌜ (length (now left) ≡ 64) × (n ≤ 16) × (from ≤ length (now list)) ⌝ }
+    requires { ⌜ ((p k : ℕ) → p < n → bit (getD (now bound) p 0) k ≡ true → k < p) ⌝ }
+    requires { ⌜ ((p : ℕ) → p < n → getD (now groups) p 0 ≡ groupOf iotas (now bound) p) ⌝ }
+    requires { ⌜ ((e : ℕ) → e < 64 → gone (now left) e never ≡ false) ⌝ }
+    ensures { λ r. ⌜ ComeFrom n iotas (now (bound .entry)) (now (list .entry)) (now (left .entry)) from (now (left .exit)) r ⌝ }
+{
+    let mut i = from;
+    while i + 1 < list.len() {
+        let e = (list[i] % 64) as usize;
+        let here = left[e];
+        let one = passes(&mut *left, n, iotas, bound, groups, e, here, list[i]);
+        if !one.seen {
+            return i;
+        }
+        i += 1;
+        let two = passes(
+            &mut *left,
+            n,
+            iotas,
+            bound,
+            groups,
+            one.at,
+            one.kept,
+            list[i],
+        );
+        if !two.seen {
+            return i;
+        }
+        i += 1;
+    }
+    i
+}
+
+// What the check says after i entries, which are all.
+fn ended(left: &[u64; 64], n: usize, i: usize) -> Verdict
+    requires { ⌜ n ≤ 16 ⌝ }
+    ensures { λ r. ⌜ r ≡ pick (apartOf (2 ^ n - 1) (somewhereOf (now (left .entry)) 64)) Permitted (Refused i) ⌝ }
+{
+    if apart((1 << n) - 1, somewhere(left)) {
+        return Verdict::Permitted;
+    }
+    Verdict::Refused(i as u64)
 }
 
 // The pass over the list. It never reads past the first bad entry.
@@ -186,26 +247,16 @@ pub fn check(n: usize, vlr: u64, iotas: u64, bound: &[u64; 16], list: &[u64]) ->
     requires { ⌜ ((p k : ℕ) → p < n → bit (getD (now bound) p 0) k ≡ true → k < p) ⌝ }
     ensures { λ r. ⌜ r ≡ verdictBy n vlr iotas (now (bound .entry)) (now (list .entry)) ⌝ }
 {
-    let mut came = [0u64; 64];
-    start(&mut came, vlr, iotas);
+    let mut left = [18446744073709551615u64; 64];
+    start(&mut left, vlr, iotas);
     let mut groups = [0u64; 16];
     fill(&mut groups, n, iotas, bound);
-    let mut at: usize = 0;
-    let mut kept = came[0];
     let mut i: usize = 0;
     while i < list.len() {
-        let pass = passes(&mut came, n, iotas, bound, &groups, at, kept, list[i]);
-        if !pass.may {
+        if !comes(&mut left, n, iotas, bound, list[i]) {
             return Verdict::Refused(i as u64);
         }
-        at = pass.at;
-        kept = pass.kept;
-        i += 1;
+        i = ahead(&mut left, n, iotas, bound, &groups, list, i + 1);
     }
-    came[at] = kept;
-    if within((1 << n) - 1, everywhere(&came)) {
-        Verdict::Permitted
-    } else {
-        Verdict::Refused(i as u64)
-    }
+    ended(&left, n, i)
 }

@@ -1,12 +1,12 @@
 -- `fill` meets its contract: after p turns the first p groups are right. Assumes nothing.
 use mathlib.Core.Path.{_≡_, _∙_, ap}
 use mathlib.Core.Bool.{Bool}
-use Prim.Native.Nat.{ℕ, _≤_, _-_}
+use Prim.Native.Nat.{ℕ, _≤_, _-_, _^_}
 use native.Mathlib.Omega.{arith}
 use borrow.Author.Needs.{needs}
 use lib.ListN.{getD}
 use Rattle.numbers.specs.Choice.{pick}
-use Rattle.queue.specs.Tables.{joined, groupOf}
+use Rattle.queue.specs.Tables.{joined, never, groupOf}
 use Rattle.queue.proofs.Filling.{Filled, fill-none, fill-more}
 use Rattle.queue.proofs.order.fill.Statement.{statement}
 use Rattle.queue.proofs.order.fill.Tie as tie
@@ -47,7 +47,7 @@ loop-less c = search needs
 loop-again : tie.Need-loop-again Inv-loop μ-loop
 loop-again c =
     let at = c .before .before .before .before in
-    (search needs, fill-more _ _ _ _ _ (at .loop .inv .1) (search needs) (c .group .ensures ∙ ap (λ (t : Bool). pick t 0 (joined (getD (at .before .args .bound .now) (at .loop .p) 0) (at .loop .p))) (c .before .before .bit .ensures)))
+    (search needs, fill-more _ _ _ _ _ (at .loop .inv .1) (search needs) (c .group .ensures ∙ ap (λ (t : Bool). pick t (2 ^ never) (joined (getD (at .before .args .bound .now) (at .loop .p) 0) (at .loop .p))) (c .before .before .bit .ensures)))
 
 returns : tie.Need-returns Inv-loop μ-loop
 returns c = λ p h. c .before .loop .inv .1 .first p (let e = c .loop-test .left in omega arith)

@@ -10,8 +10,8 @@ use Rattle.queue.proofs.order.iota_comes.Tie as tie
 returns : tie.Need-returns
 returns c = refuses _ (iota-not _ _ (c .if1 .taken))
 
-everywhere-requires : tie.Need-everywhere-requires
-everywhere-requires c κs = search needs
+somewhere-requires : tie.Need-somewhere-requires
+somewhere-requires c κs = search needs
 
 ready-requires : tie.Need-ready-requires
 ready-requires c κs = search needs
@@ -19,7 +19,7 @@ ready-requires c κs = search needs
 returns-2 : tie.Need-returns-2
 returns-2 c =
     let r = c .before in let a = r .before in let z = a .before .before in let s = z .before .args in
-    refuses _ (sym (iota-tested (element (s .x)) (s .bound) _ (position (s .x)) (s .came .now) _ (z .if1 .left) (a .everywhere .ensures) (r .ready .ensures)) ∙ not-true _ (c .if2 .taken))
+    refuses _ (sym (iota-tested (element (s .x)) (s .bound) _ (position (s .x)) (s .left .now) _ (z .if1 .left) (a .somewhere .ensures) (r .ready .ensures)) ∙ not-true _ (c .if2 .taken))
 
 release-requires : tie.Need-release-requires
 release-requires c κs = search needs
@@ -27,11 +27,11 @@ release-requires c κs = search needs
 returns-3 : tie.Need-returns-3
 returns-3 c =
     let e = c .before .before in let r = e .before in let a = r .before in let z = a .before .before in let s = z .before .args in (
-      sym (not-false _ (e .if2 .left)) ∙ iota-tested (element (s .x)) (s .bound) _ (position (s .x)) (s .came .now) _ (z .if1 .left) (a .everywhere .ensures) (r .ready .ensures),
+      sym (not-false _ (e .if2 .left)) ∙ iota-tested (element (s .x)) (s .bound) _ (position (s .x)) (s .left .now) _ (z .if1 .left) (a .somewhere .ensures) (r .ready .ensures),
       λ f. iota-came _ _ _ (z .before .pre .0) (c .release .ensures),
     )
 
 pub iota-comes-spec : {M : Type 1} → statement M
 iota-comes-spec =
     tie.close
-    (tie.spec returns everywhere-requires ready-requires returns-2 release-requires returns-3)
+    (tie.spec returns somewhere-requires ready-requires returns-2 release-requires returns-3)

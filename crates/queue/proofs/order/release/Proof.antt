@@ -4,34 +4,37 @@ use Prim.Native.Nat.{ℕ, _≤_, _-_}
 use native.Mathlib.Omega.{arith}
 use borrow.Author.Needs.{needs}
 use lib.ListN.{getD}
-use Rattle.queue.specs.Tables.{joined}
-use Rattle.queue.proofs.Sweeping.{Swept, swept-none, joins-each}
+use Rattle.queue.specs.Tables.{parted}
+use Rattle.queue.proofs.Sweeping.{Swept, swept-none, leaves-each}
 use Rattle.queue.proofs.order.release.Statement.{statement}
 use Rattle.queue.proofs.order.release.Tie as tie
 
 abbrev Inv-loop : tie.InvT-loop
-Inv-loop came₀ p e₀ came e = (e ≤ 64) × Swept came₀ 0 (λ (j : ℕ). joined (getD came₀ j 0) p) came e
+Inv-loop left₀ p e₀ left e = (e ≤ 64) × Swept left₀ 0 (λ (j : ℕ). parted (getD left₀ j 0) p) left e
 
 abbrev μ-loop : tie.MeasureT-loop
-μ-loop came₀ p e₀ came e = 64 - e
+μ-loop left₀ p e₀ left e = 64 - e
 
 loop-holds : tie.Need-loop-holds Inv-loop μ-loop
 loop-holds c = (search needs, swept-none _ _ _)
 
-mul-came : tie.Need-mul-came Inv-loop μ-loop
-mul-came c = search needs
+mul-left : tie.Need-mul-left Inv-loop μ-loop
+mul-left c = search needs
 
-element-copy-out-came : tie.Need-element-copy-out-came Inv-loop μ-loop
-element-copy-out-came c = search needs
+element-copy-out-left : tie.Need-element-copy-out-left Inv-loop μ-loop
+element-copy-out-left c = search needs
 
-shl-came : tie.Need-shl-came Inv-loop μ-loop
-shl-came c = search needs
+shl-left : tie.Need-shl-left Inv-loop μ-loop
+shl-left c = search needs
 
-mul-came-2 : tie.Need-mul-came-2 Inv-loop μ-loop
-mul-came-2 c = search needs
+shl-left-2 : tie.Need-shl-left-2 Inv-loop μ-loop
+shl-left-2 c = search needs
 
-element-write-came : tie.Need-element-write-came Inv-loop μ-loop
-element-write-came c = search needs
+mul-left-2 : tie.Need-mul-left-2 Inv-loop μ-loop
+mul-left-2 c = search needs
+
+element-write-left : tie.Need-element-write-left Inv-loop μ-loop
+element-write-left c = search needs
 
 add-e : tie.Need-add-e Inv-loop μ-loop
 add-e c = search needs
@@ -42,7 +45,7 @@ loop-less c = search needs
 loop-again : tie.Need-loop-again Inv-loop μ-loop
 loop-again c =
     let at = c .before .before in let s = at .before in
-    (search needs, joins-each _ _ _ _ (s .pre .0) (s .pre .1) (search needs) (at .loop .inv .1))
+    (search needs, leaves-each _ _ _ _ (s .pre .0) (s .pre .1) (search needs) (at .loop .inv .1))
 
 returns : tie.Need-returns Inv-loop μ-loop
 returns c =
@@ -56,11 +59,12 @@ release-spec =
     Inv-loop
     μ-loop
     loop-holds
-    mul-came
-    element-copy-out-came
-    shl-came
-    mul-came-2
-    element-write-came
+    mul-left
+    element-copy-out-left
+    shl-left
+    shl-left-2
+    mul-left-2
+    element-write-left
     add-e
     loop-less
     loop-again

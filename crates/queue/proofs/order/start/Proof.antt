@@ -2,25 +2,25 @@
 use mathlib.Core.Path.{refl}
 use Prim.Native.Nat.{ℕ, _≤_, _-_}
 use borrow.Author.Needs.{needs}
-use Rattle.numbers.specs.Bits.{complement}
+use Rattle.queue.specs.Tables.{joined, never}
 use Rattle.queue.proofs.Sweeping.{Swept, swept-none, swept-more, starts}
 use Rattle.queue.proofs.order.start.Statement.{statement}
 use Rattle.queue.proofs.order.start.Tie as tie
 
 abbrev Inv-loop : tie.InvT-loop
-Inv-loop came₀ vlr iotas e₀ came e = (e ≤ 64) × Swept came₀ vlr (λ (j : ℕ). complement 64 iotas) came e
+Inv-loop left₀ vlr iotas e₀ left e = (e ≤ 64) × Swept left₀ vlr (λ (j : ℕ). joined iotas never) left e
 
 abbrev μ-loop : tie.MeasureT-loop
-μ-loop came₀ vlr iotas e₀ came e = 64 - e
+μ-loop left₀ vlr iotas e₀ left e = 64 - e
 
 loop-holds : tie.Need-loop-holds Inv-loop μ-loop
 loop-holds c = (search needs, swept-none _ _ _)
 
-mul-came : tie.Need-mul-came Inv-loop μ-loop
-mul-came c = search needs
+mul-left : tie.Need-mul-left Inv-loop μ-loop
+mul-left c = search needs
 
-element-write-came : tie.Need-element-write-came Inv-loop μ-loop
-element-write-came c = search needs
+element-write-left : tie.Need-element-write-left Inv-loop μ-loop
+element-write-left c = search needs
 
 add-e : tie.Need-add-e Inv-loop μ-loop
 add-e c = search needs
@@ -41,8 +41,8 @@ start-spec =
     Inv-loop
     μ-loop
     loop-holds
-    mul-came
-    element-write-came
+    mul-left
+    element-write-left
     add-e
     loop-less
     loop-again
