@@ -2,7 +2,7 @@
 use mathlib.Core.Path.{_≡_, refl, sym, ap, ap₂, subst, _∙_}
 use mathlib.Core.Bool.{Bool, Bool·beq, true, false, not, _&&_, _||_}
 use mathlib.Core.List.{List}
-use Prim.Native.Nat.{ℕ, _+_, _-_, _*_, _%_, _^_, _<_, _≤_}
+use Prim.Native.Nat.{ℕ, zero, suc, _+_, _-_, _*_, _%_, _^_, _<_, _≤_}
 use native.Mathlib.Omega.{arith}
 use native.Mathlib.Numerals.{add-one}
 use native.Mathlib.Decide.{ℕ-discrete}
@@ -188,3 +188,23 @@ goes-on n iotas bound list left from mid left′ i few g h c = record {
   long = c .came .long ∙ g .long;
   stays = never-stays (bit iotas (position (getD list i 0))) (getD list i 0) mid left′ (let p = inside-of n iotas bound mid (getD list i 0) (c .may) in omega arith) (c .came) (g .stays);
 }
+
+-- several more
+pub goes-through : (n iotas : ℕ) (bound list left : List ℕ) (from : ℕ) (mid : List ℕ) (i : ℕ) → n ≤ 16 → Going n iotas bound list left from mid i
+    → (left′ : List ℕ) (j : ℕ) → ComeFrom n iotas bound list mid i left′ j → Going n iotas bound list left from left′ j
+unfolding ComeOn
+goes-through n iotas bound list left from mid i few g left′ j c =
+    let f = c .forth in let h = c .inside in let there : i + (j - i) ≡ j = omega arith in
+    subst (Going n iotas bound list left from left′) there (go (j - i) left′ (omega arith) (c .on))
+  where
+    go : (k : ℕ) (l : List ℕ) → i + k ≤ length list → ComeOn n iotas bound list mid i l k → Going n iotas bound list left from l (i + k)
+    go zero l h o = subst (Going n iotas bound list left from l) none (subst (λ (t : List ℕ). Going n iotas bound list left from t i) (sym o) g)
+      where
+        none : i ≡ i + 0
+        none = omega arith
+    go (suc k) l h o =
+        subst (Going n iotas bound list left from l) more
+        (goes-on n iotas bound list left from (o .left) l (i + k) few (go k (o .left) (omega arith) (o .so-far)) (omega arith) (o .comes))
+      where
+        more : i + k + 1 ≡ i + suc k
+        more = omega arith

@@ -2,14 +2,19 @@
 -- may come. Assumes nothing.
 use mathlib.Core.Path.{_≡_, refl, sym, ap, ap₂, _∙_}
 use mathlib.Core.Bool.{Bool, Bool·beq, true, false, not, _&&_, _||_}
-use Prim.Native.Nat.{ℕ, _^_, _<_}
+use mathlib.Core.List.{List}
+use Prim.Native.Nat.{ℕ, _+_, _*_, _%_, _^_, _<_}
 use native.Mathlib.Omega.{arith}
 use borrow.Author.Tests.{eq-eqb, ne-eqb}
 use lib.Dec.{eqb}
-use lib.Bits.{bitXor}
+use lib.Bits.{bitOr, bitXor}
+use lib.Pow.{pow-add}
+use lib.ListN.{getD}
+use Rattle.numbers.specs.Choice.{pick}
 use Rattle.numbers.specs.Bits.{bit}
-use Rattle.queue.specs.Tables.{joined, apart, ready}
-use Rattle.queue.proofs.Sets.{bit-joined, bit-turned, turned-out, apart→, →apart}
+use Rattle.numbers.proofs.BitLaws.{one-shifted}
+use Rattle.queue.specs.Tables.{joined, apart, ready, never, groupOf}
+use Rattle.queue.proofs.Sets.{bit-joined, bit-turned, turned-out, apart→, →apart, apart-one}
 
 module _ (bound left p : ℕ) (earlier : (k : ℕ) → bit bound k ≡ true → k < p) where
   abbrev turned : ℕ
@@ -38,3 +43,23 @@ module _ (bound left p : ℕ) (earlier : (k : ℕ) → bit bound k ≡ true → 
           sym (ap (λ (t : Bool). t || not (bit left k)) (ne-eqb k p (λ z. omega arith)))
           ∙ sym (turned-out left p itself k)
           ∙ apart→ (joined bound p) turned e k (bit-joined bound p k ∙ ap (λ (t : Bool). eqb k p || t) b ∙ as-bound (eqb k p))
+
+-- ---- as the code works a group out
+-- a shift by one
+pub doubled : (own p : ℕ) → p < 63 → own ≡ 2 ^ p → own * 2 ^ 1 % 18446744073709551616 ≡ 2 ^ (p + 1)
+doubled own p h e =
+    ap (λ (v : ℕ). v % 18446744073709551616) (ap (λ (v : ℕ). v * 2 ^ 1) e ∙ sym (pow-add 2 p 1) ∙ once (2 ^ (p + 1)))
+    ∙ one-shifted (p + 1) 64 (omega arith)
+  where
+    once : (m : ℕ) → m ≡ 1 * m
+    once m = omega arith
+
+pub group-is : (iotas p own v : ℕ) (bound : List ℕ) → own ≡ 2 ^ p → v ≡ pick (apart iotas own) (bitOr (getD bound p 0) own) (2 ^ never) → v ≡ groupOf iotas bound p
+group-is iotas p own v bound e f =
+    f ∙ ap (λ (o : ℕ). pick (apart iotas o) (bitOr (getD bound p 0) o) (2 ^ never)) e
+    ∙ ap (λ (t : Bool). pick t (joined (getD bound p 0) p) (2 ^ never)) (apart-one iotas p)
+    ∙ turn (bit iotas p)
+  where
+    turn : (t : Bool) → pick (not t) (joined (getD bound p 0) p) (2 ^ never) ≡ pick t (2 ^ never) (joined (getD bound p 0) p)
+    turn true = refl
+    turn false = refl

@@ -24,19 +24,13 @@ use Rattle.queue.proofs.Tests.{and-none, or-always, T-true, each→, �
 use Rattle.queue.proofs.Places.{same-bool, true-T}
 use Rattle.queue.proofs.Steps.{passing→, →passing}
 use Rattle.queue.proofs.Accepting.{both}
-use Rattle.queue.proofs.Sets.{not-not, bit-joined, bit-below, apart→, →apart}
+use Rattle.queue.proofs.Sets.{not-not, bit-joined, bit-below, apart→, →apart, apart-or}
 use Rattle.queue.proofs.Coming.{never-stays}
 use Rattle.queue.proofs.CheckLoop.{CheckInv, mayBy, check-start, check-stop, check-on, check-end}
 
 -- the set of the positions below n is worked out without wrapping
 pub ones-fit : (n : ℕ) → n ≤ 16 → 1 ≤ 1 * 2 ^ n % 18446744073709551616
 ones-fit n h = rw (one-shifted n 64 (omega arith)) (pow-pos n)
-
--- what the code says at the end
-pub end-says : (n i : ℕ) (left : List ℕ) (any : ℕ) (r b : Bool) → n ≤ 16 → any ≡ somewhere left 64 → r ≡ apart (1 * 2 ^ n % 18446744073709551616 - 1) any → r ≡ b
-    → pick b Permitted (Refused i) ≡ pick (apart (2 ^ n - 1) (somewhere left 64)) Permitted (Refused i)
-end-says n i left any r b few e f g =
-    ap (λ (t : Bool). pick t Permitted (Refused i)) (sym g ∙ f ∙ ap₂ (λ (s t : ℕ). apart (s - 1) t) (one-shifted n 64 (omega arith)) e)
 
 -- ---- tests
 both-true : (a b : Bool) → a ≡ true → b ≡ true → a && b ≡ true
@@ -94,6 +88,31 @@ unfolding somewhere
 pub somewhere-more : (left : List ℕ) (e any : ℕ) → any ≡ somewhere left e → bitOr any (getD left e 0) ≡ somewhere left (e + 1)
 unfolding somewhere
 somewhere-more left e any h = ap (λ (a : ℕ). bitOr a (getD left e 0)) h ∙ sym (ap (somewhere left) (add-one e))
+
+-- ---- the code's search for an element that still waits
+pub none-waits : (left : List ℕ) (n : ℕ) → apart (2 ^ n - 1) (somewhere left 0) ≡ true
+unfolding somewhere
+none-waits left n = →apart (2 ^ n - 1) 0 (λ k h. ap not (bit-none k))
+
+pub no-more-waits : (left : List ℕ) (n e : ℕ) → n ≤ 16 → apart (2 ^ n - 1) (somewhere left e) ≡ true
+    → (r : Bool) → r ≡ apart (1 * 2 ^ n % 18446744073709551616 - 1) (getD left e 0) → r ≡ true
+    → apart (2 ^ n - 1) (somewhere left (e + 1)) ≡ true
+no-more-waits left n e few so r is h =
+    ap (apart (2 ^ n - 1)) (sym (somewhere-more left e (somewhere left e) refl))
+    ∙ apart-or (2 ^ n - 1) (somewhere left e) (getD left e 0) so (ap (λ (s : ℕ). apart (s - 1) (getD left e 0)) (sym (one-shifted n 64 (omega arith))) ∙ sym is ∙ h)
+
+pub one-waits : (left : List ℕ) (n i e : ℕ) → n ≤ 16 → e < 64 → (r : Bool) → r ≡ apart (1 * 2 ^ n % 18446744073709551616 - 1) (getD left e 0) → r ≡ false
+    → Refused i ≡ pick (apart (2 ^ n - 1) (somewhere left 64)) Permitted (Refused i)
+one-waits left n i e few small r is h = go (apart (2 ^ n - 1) (somewhere left 64)) refl
+  where
+    go : (t : Bool) → apart (2 ^ n - 1) (somewhere left 64) ≡ t → Refused i ≡ pick t Permitted (Refused i)
+    go false f = refl
+    go true f =
+        absurd (clash (sym (→apart (2 ^ n - 1) (getD left e 0) (λ k g. somewhere→ left 64 k (apart→ (2 ^ n - 1) (somewhere left 64) f k g) e small))
+        ∙ ap (λ (s : ℕ). apart (s - 1) (getD left e 0)) (sym (one-shifted n 64 (omega arith))) ∙ sym is ∙ h))
+
+pub all-come : (left : List ℕ) (n i e : ℕ) → e ≡ 64 → apart (2 ^ n - 1) (somewhere left e) ≡ true → Permitted ≡ pick (apart (2 ^ n - 1) (somewhere left 64)) Permitted (Refused i)
+all-come left n i e z h = sym (ap (λ (t : Bool). pick t Permitted (Refused i)) (ap (λ (j : ℕ). apart (2 ^ n - 1) (somewhere left j)) (sym z) ∙ h))
 
 module _ (n vlr iotas : ℕ) where
   pub record IsStep (x : ℕ) : Type 0 where

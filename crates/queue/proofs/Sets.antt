@@ -1,13 +1,13 @@
 -- Sets of positions: a number whose bit k says that k is in it. Assumes nothing.
-use mathlib.Core.Path.{_≡_, refl, sym, ap, ap₂, _∙_}
+use mathlib.Core.Path.{_≡_, refl, sym, ap, ap₂, subst, _∙_}
 use mathlib.Core.Bool.{Bool, Bool·beq, true, false, not, _&&_, _||_}
 use Prim.Native.Nat.{ℕ, suc, _+_, _-_, _*_, _/_, _%_, _^_, _<_}
 use native.Mathlib.Nat.{mul-mod-left, pow-suc, div-eq-of-lt, zero-div}
 use native.Mathlib.Omega.{arith}
 use native.Mathlib.Decide.{ℕ-discrete, decLt}
 use borrow.Author.Tests.{eq-eqb, ne-eqb, eqb-true, lt-ltb, le-ltb}
-use lib.Dec.{eqb, ltb}
-use lib.Bits.{bitAnd, bitXor}
+use lib.Dec.{T, eqb, ltb}
+use lib.Bits.{bitOr, bitAnd, bitXor}
 use lib.Pow.{shl-shr, pow-add, pow-lt, pow-pos}
 use Rattle.numbers.specs.Choice.{pick}
 use Rattle.numbers.specs.Bits.{bit}
@@ -124,6 +124,32 @@ pub →apart : (a b : ℕ) → ((k : ℕ) → bit a k ≡ true → not (bit b k)
     go : (k : ℕ) (s t : Bool) → bit a k ≡ s → bit b k ≡ t → (s && t) ≡ false
     go k false t e g = refl
     go k true t e g = sym (not-not t) ∙ ap not (ap not (sym g) ∙ f k e)
+
+-- a set without position k
+pub apart-one : (s k : ℕ) → apart s (2 ^ k) ≡ not (bit s k)
+apart-one s k = go (apart s (2 ^ k)) (bit s k) refl refl
+  where
+    clash : true ≡ false → ⊥
+    clash f = subst T f tt
+
+    is-in : bit s k ≡ false → (j : ℕ) → bit s j ≡ true → Dec (j ≡ k) → not (bit (2 ^ k) j) ≡ true
+    is-in e j h (yes z) = absurd (clash (sym h ∙ ap (bit s) z ∙ e))
+    is-in e j h (no z) = ap not (bit-one k j ∙ ne-eqb j k z)
+
+    go : (a b : Bool) → apart s (2 ^ k) ≡ a → bit s k ≡ b → a ≡ not b
+    go true true e f = sym (apart→ s (2 ^ k) e k f) ∙ ap not (bit-one k k ∙ eq-eqb k k refl)
+    go true false e f = refl
+    go false true e f = refl
+    go false false e f = sym e ∙ →apart s (2 ^ k) (λ j h. is-in f j h (ℕ-discrete j k))
+
+-- a union has no common position with a set where neither part has
+pub apart-or : (a s t : ℕ) → apart a s ≡ true → apart a t ≡ true → apart a (bitOr s t) ≡ true
+apart-or a s t e f =
+    →apart a (bitOr s t) (λ k h. ap not (bit-or s t k) ∙ neither (bit s k) (bit t k) (apart→ a s e k h) (apart→ a t f k h))
+  where
+    neither : (u v : Bool) → not u ≡ true → not v ≡ true → not (u || v) ≡ true
+    neither true v g h = g
+    neither false v g h = h
 
 -- ---- a set that a loop builds: after k turns it has the positions below k that pass the test
 pub Built : (ℕ → Bool) → ℕ → ℕ → Type 0

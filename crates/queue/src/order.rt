@@ -4,8 +4,9 @@ use crate::Verdict;
 use numbers::bits;
 ghost use mathlib.Core.Path.{_≡_};
 ghost use mathlib.Core.Bool.{true, false, _&&_};
-ghost use Prim.Native.Nat.{ℕ, _≤_, _<_, _^_, _-_};
+ghost use Prim.Native.Nat.{ℕ, _≤_, _<_, _^_, _+_, _-_};
 ghost use lib.Dec.{eqb};
+ghost use lib.Bits.{bitOr};
 ghost use lib.ListN.{length, getD, set};
 ghost use Rattle.numbers.specs.Choice.{pick};
 ghost use Rattle.numbers.specs.Bits.{bit};
@@ -82,14 +83,13 @@ fn iota_comes(left: &mut [u64; 64], bound: u64, x: u64) -> bool
 }
 
 // A position's group: itself and those that it is bound to. An IOTA's is one of which a position is always left.
-fn group(iota: bool, bound: u64, p: usize) -> u64
-    requires { ⌜ p < 64 ⌝ }
-    ensures { λ r. ⌜ r ≡ pick iota (2 ^ never) (joined bound p) ⌝ }
+fn group(iotas: u64, bound: u64, own: u64) -> u64
+    ensures { λ r. ⌜ r ≡ pick (apartOf iotas own) (bitOr bound own) (2 ^ never) ⌝ }
 {
-    if iota {
-        return 1 << 63;
+    if apart(iotas, own) {
+        return bound | own;
     }
-    bound | (1 << p)
+    1 << 63
 }
 
 // The groups of the first n positions.
@@ -97,9 +97,11 @@ fn fill(groups: &mut [u64; 16], n: usize, iotas: u64, bound: &[u64; 16])
     requires { ⌜ (length (now groups) ≡ 16) × (n ≤ 16) ⌝ }
     ensures { λ r. ⌜ ((p : ℕ) → p < n → getD (now (groups .exit)) p 0 ≡ groupOf iotas (now (bound .entry)) p) ⌝ }
 {
+    let mut own: u64 = 1;
     let mut p: usize = 0;
     while p < n {
-        groups[p] = group(bits::bit(iotas, p), bound[p], p);
+        groups[p] = group(iotas, bound[p], own);
+        own = own << 1;
         p += 1;
     }
 }
@@ -187,7 +189,38 @@ fn passes(
     }
 }
 
-// The entries from `from` on come in twos, as long as both are seen to: the entry that it stops at. The second finds the first one's set at hand.
+// The two entries from i on come, as far as they are seen to: the entry that this stops at. The second finds the first one's set at hand.
+fn pair(
+    left: &mut [u64; 64],
+    n: usize,
+    iotas: u64,
+    bound: &[u64; 16],
+    groups: &[u64; 16],
+    list: &[u64],
+    i: usize,
+) -> usize
+    requires { ⌜ (length (now left) ≡ 64) × (n ≤ 16) × (i + 1 < length (now list)) ⌝ }
+    requires { ⌜ ((p k : ℕ) → p < n → bit (getD (now bound) p 0) k ≡ true → k < p) ⌝ }
+    requires { ⌜ ((p : ℕ) → p < n → getD (now groups) p 0 ≡ groupOf iotas (now bound) p) ⌝ }
+    requires { ⌜ ((e : ℕ) → e < 64 → gone (now left) e never ≡ false) ⌝ }
+    ensures { λ r. ⌜ ComeFrom n iotas (now (bound .entry)) (now (list .entry)) (now (left .entry)) i (now (left .exit)) r ⌝ }
+{
+    let x = list[i];
+    let e = (x % 64) as usize;
+    let here = left[e];
+    let one = passes(&mut *left, n, iotas, bound, groups, e, here, x);
+    if !one.seen {
+        return i;
+    }
+    let y = list[i + 1];
+    let two = passes(&mut *left, n, iotas, bound, groups, one.at, one.kept, y);
+    if !two.seen {
+        return i + 1;
+    }
+    i + 2
+}
+
+// The entries from `from` on come, as long as they are seen to and there are four: the entry that this stops at.
 fn ahead(
     left: &mut [u64; 64],
     n: usize,
@@ -204,28 +237,15 @@ fn ahead(
     ensures { λ r. ⌜ ComeFrom n iotas (now (bound .entry)) (now (list .entry)) (now (left .entry)) from (now (left .exit)) r ⌝ }
 {
     let mut i = from;
-    while i + 1 < list.len() {
-        let e = (list[i] % 64) as usize;
-        let here = left[e];
-        let one = passes(&mut *left, n, iotas, bound, groups, e, here, list[i]);
-        if !one.seen {
+    while i + 3 < list.len() {
+        let half = pair(&mut *left, n, iotas, bound, groups, list, i);
+        if half != i + 2 {
+            return half;
+        }
+        i = pair(&mut *left, n, iotas, bound, groups, list, half);
+        if i != half + 2 {
             return i;
         }
-        i += 1;
-        let two = passes(
-            &mut *left,
-            n,
-            iotas,
-            bound,
-            groups,
-            one.at,
-            one.kept,
-            list[i],
-        );
-        if !two.seen {
-            return i;
-        }
-        i += 1;
     }
     i
 }
@@ -235,10 +255,15 @@ fn ended(left: &[u64; 64], n: usize, i: usize) -> Verdict
     requires { ⌜ n ≤ 16 ⌝ }
     ensures { λ r. ⌜ r ≡ pick (apartOf (2 ^ n - 1) (somewhereOf (now (left .entry)) 64)) Permitted (Refused i) ⌝ }
 {
-    if apart((1 << n) - 1, somewhere(left)) {
-        return Verdict::Permitted;
+    let all: u64 = (1 << n) - 1;
+    let mut e: usize = 0;
+    while e < 64 {
+        if !apart(all, left[e]) {
+            return Verdict::Refused(i as u64);
+        }
+        e += 1;
     }
-    Verdict::Refused(i as u64)
+    Verdict::Permitted
 }
 
 // The pass over the list. It never reads past the first bad entry.
@@ -251,7 +276,7 @@ pub fn check(n: usize, vlr: u64, iotas: u64, bound: &[u64; 16], list: &[u64]) ->
     start(&mut left, vlr, iotas);
     let mut groups = [0u64; 16];
     fill(&mut groups, n, iotas, bound);
-    let mut i: usize = 0;
+    let mut i = ahead(&mut left, n, iotas, bound, &groups, list, 0);
     while i < list.len() {
         if !comes(&mut left, n, iotas, bound, list[i]) {
             return Verdict::Refused(i as u64);

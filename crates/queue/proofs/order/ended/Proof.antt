@@ -1,32 +1,74 @@
--- `ended` meets its contract. Assumes nothing.
-use mathlib.Core.Bool.{true, false}
+-- `ended` meets its contract: none of the elements so far waits for a position of the queue. Assumes nothing.
+use mathlib.Core.Path.{_≡_, refl, ap, _∙_}
+use mathlib.Core.Bool.{true}
+use Prim.Native.Nat.{_≤_, _-_, _^_}
 use native.Mathlib.Omega.{arith}
 use borrow.Author.Needs.{needs}
-use Rattle.queue.proofs.Marking.{ones-fit, end-says}
+use borrow.Author.Tests.{not-true, not-false}
+use Rattle.queue.specs.Tables.{apart, somewhere}
+use Rattle.queue.proofs.Marking.{ones-fit, none-waits, one-waits, no-more-waits, all-come}
 use Rattle.queue.proofs.order.ended.Statement.{statement}
 use Rattle.queue.proofs.order.ended.Tie as tie
 
-shl-apart : tie.Need-shl-apart
-shl-apart c = omega (arith, c .pre)
+abbrev Inv-loop : tie.InvT-loop
+Inv-loop left n i all e₀ e = (e ≤ 64) × (apart (2 ^ n - 1) (somewhere left e) ≡ true)
 
-sub-apart : tie.Need-sub-apart
-sub-apart c = ones-fit _ (c .pre)
+abbrev μ-loop : tie.MeasureT-loop
+μ-loop left n i all e₀ e = 64 - e
 
-somewhere-requires : tie.Need-somewhere-requires
-somewhere-requires c κs = search needs
+shl-all : tie.Need-shl-all Inv-loop μ-loop
+shl-all c = omega (arith, c .pre)
 
-apart-requires : tie.Need-apart-requires
+sub-all : tie.Need-sub-all Inv-loop μ-loop
+sub-all c = ones-fit _ (c .pre)
+
+loop-holds : tie.Need-loop-holds Inv-loop μ-loop
+loop-holds c = (search needs, none-waits (c .args .left .now) (c .args .n))
+
+mul-apart : tie.Need-mul-apart Inv-loop μ-loop
+mul-apart c = search needs
+
+element-copy-out-apart : tie.Need-element-copy-out-apart Inv-loop μ-loop
+element-copy-out-apart c = search needs
+
+apart-requires : tie.Need-apart-requires Inv-loop μ-loop
 apart-requires c κs = search needs
 
-returns : tie.Need-returns
+returns : tie.Need-returns Inv-loop μ-loop
 returns c =
-    let a = c .before in let w = a .before in let s = w .before in
-    end-says _ (s .args .i) _ _ _ true (s .pre) (w .somewhere .ensures) (a .apart .ensures) (c .if1 .taken)
+    let a = c .before in let turn = a .before .before in let at = turn .before in let s = at .before in
+    one-waits _ _ _ (at .loop .e) (s .pre) (turn .loop-test .taken) _ (a .apart .ensures) (not-true _ (c .if1 .taken))
 
-returns-2 : tie.Need-returns-2
+add-e : tie.Need-add-e Inv-loop μ-loop
+add-e c = search needs
+
+loop-less : tie.Need-loop-less Inv-loop μ-loop
+loop-less c = search needs
+
+loop-again : tie.Need-loop-again Inv-loop μ-loop
+loop-again c =
+    let a = c .before in let at = a .before .before .before in let s = at .before in
+    (search needs, no-more-waits _ _ (at .loop .e) (s .pre) (at .loop .inv .1) _ (a .apart .ensures) (not-false _ (c .if1 .left)))
+
+returns-2 : tie.Need-returns-2 Inv-loop μ-loop
 returns-2 c =
-    let a = c .before in let w = a .before in let s = w .before in
-    end-says _ (s .args .i) _ _ _ false (s .pre) (w .somewhere .ensures) (a .apart .ensures) (c .if1 .left)
+    let at = c .before in let s = at .before in let done = c .loop-test .left in let near = at .loop .inv .0 in
+    all-come (s .args .left .now) (s .args .n) (s .args .i) (at .loop .e) (omega arith) (at .loop .inv .1)
 
 pub ended-spec : {M : Type 1} → statement M
-ended-spec = tie.close (tie.spec shl-apart sub-apart somewhere-requires apart-requires returns returns-2)
+ended-spec =
+    tie.close
+    (tie.spec
+    Inv-loop
+    μ-loop
+    shl-all
+    sub-all
+    loop-holds
+    mul-apart
+    element-copy-out-apart
+    apart-requires
+    returns
+    add-e
+    loop-less
+    loop-again
+    returns-2)

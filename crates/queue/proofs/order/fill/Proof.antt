@@ -1,27 +1,22 @@
 -- `fill` meets its contract: after p turns the first p groups are right. Assumes nothing.
-use mathlib.Core.Path.{_≡_, _∙_, ap}
-use mathlib.Core.Bool.{Bool}
+use mathlib.Core.Path.{_≡_, refl}
 use Prim.Native.Nat.{ℕ, _≤_, _-_, _^_}
 use native.Mathlib.Omega.{arith}
 use borrow.Author.Needs.{needs}
-use lib.ListN.{getD}
-use Rattle.numbers.specs.Choice.{pick}
-use Rattle.queue.specs.Tables.{joined, never, groupOf}
+use Rattle.queue.specs.Tables.{groupOf}
 use Rattle.queue.proofs.Filling.{Filled, fill-none, fill-more}
+use Rattle.queue.proofs.Groups.{doubled, group-is}
 use Rattle.queue.proofs.order.fill.Statement.{statement}
 use Rattle.queue.proofs.order.fill.Tie as tie
 
 abbrev Inv-loop : tie.InvT-loop
-Inv-loop groups₀ n iotas bound p₀ groups p = (p ≤ n) × Filled 0 (λ (j v : ℕ). v ≡ groupOf iotas bound j) groups p
+Inv-loop groups₀ n iotas bound own₀ p₀ groups own p = (p ≤ n) × (own ≡ 2 ^ p) × Filled 0 (λ (j v : ℕ). v ≡ groupOf iotas bound j) groups p
 
 abbrev μ-loop : tie.MeasureT-loop
-μ-loop groups₀ n iotas bound p₀ groups p = n - p
+μ-loop groups₀ n iotas bound own₀ p₀ groups own p = n - p
 
 loop-holds : tie.Need-loop-holds Inv-loop μ-loop
-loop-holds c = (search needs, fill-none _ _ _ (search needs))
-
-bit-requires : tie.Need-bit-requires Inv-loop μ-loop
-bit-requires c κs = search needs
+loop-holds c = (search needs, refl, fill-none _ _ _ (search needs))
 
 mul-group : tie.Need-mul-group Inv-loop μ-loop
 mul-group c = search needs
@@ -46,11 +41,11 @@ loop-less c = search needs
 
 loop-again : tie.Need-loop-again Inv-loop μ-loop
 loop-again c =
-    let at = c .before .before .before .before in
-    (search needs, fill-more _ _ _ _ _ (at .loop .inv .1) (search needs) (c .group .ensures ∙ ap (λ (t : Bool). pick t (2 ^ never) (joined (getD (at .before .args .bound .now) (at .loop .p) 0) (at .loop .p))) (c .before .before .bit .ensures)))
+    let at = c .before .before .before in let i = at .loop .inv in let few = at .before .pre .1 in let in-queue = c .before .before .loop-test .taken in
+    (search needs, doubled (at .loop .own) (at .loop .p) (omega arith) (i .1), fill-more _ _ _ _ _ (i .2) (search needs) (group-is (at .before .args .iotas) (at .loop .p) (at .loop .own) _ (at .before .args .bound .now) (i .1) (c .group .ensures)))
 
 returns : tie.Need-returns Inv-loop μ-loop
-returns c = λ p h. c .before .loop .inv .1 .first p (let e = c .loop-test .left in omega arith)
+returns c = λ p h. c .before .loop .inv .2 .first p (let e = c .loop-test .left in omega arith)
 
 pub fill-spec : {M : Type 1} → statement M
 fill-spec =
@@ -59,7 +54,6 @@ fill-spec =
     Inv-loop
     μ-loop
     loop-holds
-    bit-requires
     mul-group
     element-copy-out-group
     group-requires
