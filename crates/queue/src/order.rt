@@ -250,16 +250,16 @@ fn ahead(
     i
 }
 
-// What the check says after i entries, which are all.
-fn ended(left: &[u64; 64], n: usize, i: usize) -> Verdict
+// What the check says of a list all of whose entries have come.
+fn ended(left: &[u64; 64], n: usize, length: usize) -> Verdict
     requires { ⌜ n ≤ 16 ⌝ }
-    ensures { λ r. ⌜ r ≡ pick (apartOf (2 ^ n - 1) (somewhereOf (now (left .entry)) 64)) Permitted (Refused i) ⌝ }
+    ensures { λ r. ⌜ r ≡ pick (apartOf (2 ^ n - 1) (somewhereOf (now (left .entry)) 64)) Permitted (Refused length) ⌝ }
 {
     let all: u64 = (1 << n) - 1;
     let mut e: usize = 0;
     while e < 64 {
         if !apart(all, left[e]) {
-            return Verdict::Refused(i as u64);
+            return Verdict::Refused(length as u64);
         }
         e += 1;
     }

@@ -11,10 +11,10 @@ use Rattle.queue.proofs.order.ended.Statement.{statement}
 use Rattle.queue.proofs.order.ended.Tie as tie
 
 abbrev Inv-loop : tie.InvT-loop
-Inv-loop left n i all e₀ e = (e ≤ 64) × (apart (2 ^ n - 1) (somewhere left e) ≡ true)
+Inv-loop left n length all e₀ e = (e ≤ 64) × (apart (2 ^ n - 1) (somewhere left e) ≡ true)
 
 abbrev μ-loop : tie.MeasureT-loop
-μ-loop left n i all e₀ e = 64 - e
+μ-loop left n length all e₀ e = 64 - e
 
 shl-all : tie.Need-shl-all Inv-loop μ-loop
 shl-all c = omega (arith, c .pre)
@@ -53,7 +53,7 @@ loop-again c =
 returns-2 : tie.Need-returns-2 Inv-loop μ-loop
 returns-2 c =
     let at = c .before in let s = at .before in let done = c .loop-test .left in let near = at .loop .inv .0 in
-    all-come (s .args .left .now) (s .args .n) (s .args .i) (at .loop .e) (omega arith) (at .loop .inv .1)
+    all-come (s .args .left .now) (s .args .n) (s .args .length) (at .loop .e) (omega arith) (at .loop .inv .1)
 
 pub ended-spec : {M : Type 1} → statement M
 ended-spec =
