@@ -11,7 +11,8 @@
  *
  * Prints Markdown tables: the rows; the groups, each with the mean of its rows and the ratio of the
  * means; and what a list costs beside the straight run of the same queue. The exit status is 1 if
- * anything differed, or if a LIMIT is given and a group's ratio is above it.
+ * anything differed, or if a LIMIT is given and a group's ratio is above it or a list costs more than 3
+ * straight runs.
  */
 #define _POSIX_C_SOURCE 199309L
 #include "calls.h"
@@ -555,14 +556,41 @@ static void random_orders(void)
         random_order(orders[o]);
 }
 
-static char list_lines[16][160]; /* what a list costs beside the straight run of the same queue */
+static const double LIST_LIMIT = 3; /* what a list may cost, in straight runs of the same queue */
+static double dearest_list;
+static char list_lines[16][160];
 static int list_rows;
 
-static void by_list(const char *work, int n, const double straight[2])
+/* What a call by a list costs in straight runs of the same queue, on one side. Rounds of the two
+   alternate, so that both have the processor at the same speed. */
+static double in_straight_runs(struct side *side, int n)
+{
+    passes *timed[2] = { passes_run_order, passes_run };
+    int calls[2] = { n, STATES }, repeats[2] = { 1, 1 };
+    double best[2] = { 1e9, 1e9 };
+    for (int round = 0; round < ROUNDS; round++)
+        for (int k = 0; k < 2; k++) {
+            double start = seconds();
+            timed[k](side, calls[k], repeats[k]);
+            double time = seconds() - start;
+            if (time < ROUND_SECONDS) {
+                repeats[k] *= 2;
+                best[k] = 1e9;
+            } else if (time / repeats[k] < best[k]) {
+                best[k] = time / repeats[k];
+            }
+        }
+    return best[0] / calls[0] / (best[1] / calls[1]);
+}
+
+static void by_list(const char *work, int n)
 {
     row(work, "entry", passes_run_order, call_run_order, n, QUEUE * vlr, 0, 0);
-    snprintf(list_lines[list_rows++], sizeof list_lines[0], "| %s | %.2f | %.2f |", work,
-             last_row[0] / straight[0], last_row[1] / straight[1]);
+    double ratio = in_straight_runs(&sides[0], n);
+    if (ratio > dearest_list)
+        dearest_list = ratio;
+    snprintf(list_lines[list_rows++], sizeof list_lines[0], "| %s | %.2f%s | %.2f |", work, ratio,
+             limit > 0 && ratio > LIST_LIMIT ? " (over the limit)" : "", in_straight_runs(&sides[1], n));
 }
 
 /* The queues, each with the operands of its works. */
@@ -591,12 +619,10 @@ static void use_queue(int q)
 
 static void queues(void)
 {
-    double straight[TIMED][2];
     begin("queue straight");
     for (int q = 0; q < TIMED; q++) {
         use_queue(q);
         row(queues_timed[q].straight, "element", passes_run, call_run, STATES, STEPS, 0, 0);
-        straight[q][0] = last_row[0], straight[q][1] = last_row[1];
     }
     end("element");
 
@@ -606,13 +632,13 @@ static void queues(void)
         for (int o = 0; o < ORDERS; o++)
             for (int k = 0; k < STEPS; k++)
                 orders[o][k] = (uint64_t)k;
-        by_list(queues_timed[q].lists[0], STATES, straight[q]);
+        by_list(queues_timed[q].lists[0], STATES);
         for (int o = 0; o < ORDERS; o++)
             for (int k = 0; k < STEPS; k++)
                 orders[o][k] = (uint64_t)(k % QUEUE * 64 + k / QUEUE);
-        by_list(queues_timed[q].lists[1], STATES, straight[q]);
+        by_list(queues_timed[q].lists[1], STATES);
         random_orders();
-        by_list(queues_timed[q].lists[2], ORDERS * STATES, straight[q]);
+        by_list(queues_timed[q].lists[2], ORDERS * STATES);
     }
     end("entry");
 
@@ -620,12 +646,10 @@ static void queues(void)
     begin("short queue");
     for (vlr = 2; vlr <= 3; vlr++)
         for (int q = 0; q < TIMED; q++) {
-            double short_straight[2];
             use_queue(q);
             row(queues_timed[q].straight, "element", passes_run, call_run, STATES, QUEUE * vlr, 0, 0);
-            short_straight[0] = last_row[0], short_straight[1] = last_row[1];
             random_orders();
-            by_list(queues_timed[q].short_lists[vlr - 2], ORDERS * STATES, short_straight);
+            by_list(queues_timed[q].short_lists[vlr - 2], ORDERS * STATES);
         }
     vlr = 64;
     use_queue(1);
@@ -703,5 +727,5 @@ int main(int argc, char **argv)
         puts(list_lines[k]);
     if (failures == 0)
         fprintf(stderr, "SAME results in every row\n");
-    return failures || (limit > 0 && worst > limit);
+    return failures || (limit > 0 && (worst > limit || dearest_list > LIST_LIMIT));
 }

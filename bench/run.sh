@@ -2,8 +2,9 @@
 # Times the proved library against plain C (gcc -O2) over the same inputs in one run.
 #   bench/run.sh [LIMIT]
 # The table goes to standard output. The exit status is 1 if the two ever differ, or if a LIMIT is
-# given and a group's ratio is above it. KUJAWIAN_ARCHIVES names a folder that already holds
-# libkujawian.a; else it is built. Some 20 seconds beside that.
+# given and a group's ratio is above it or a list costs more than 3 straight runs.
+# KUJAWIAN_ARCHIVES names a folder that already holds libkujawian.a; else it is built. Some 20
+# seconds beside that.
 set -eu
 cd "$(dirname "$0")/.."
 archives=${KUJAWIAN_ARCHIVES:-}

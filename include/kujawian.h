@@ -97,10 +97,9 @@ uint32_t kuj_run(uint64_t elements[1024], uint64_t control[5],
 /*
  * The same queue by a list of its steps; it ends as if each were done on what the last one left. A
  * step is instruction position * 64 + element, for each element below VLR; an IOTA is one step, with
- * element 0, even at VLR 0. A list is permitted
- * when it holds every step once and nothing else, and each step comes after those that it must follow:
- * steps of earlier instructions that touch the same register element, mask bit or VCR, where one of
- * the two writes it.
+ * element 0, even at VLR 0. A list is permitted when it holds every step once and nothing else, and
+ * each step comes after those that it must follow: steps of earlier instructions that touch the same
+ * register element, mask bit or VCR, where one of the two writes it.
  *
  * As kuj_run; then 9 with the position of the first entry at fault beside it, or with the list's
  * length if only steps are missing.

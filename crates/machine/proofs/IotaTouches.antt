@@ -18,12 +18,9 @@ use Rattle.machine.specs.Iota.{matching, put, turned, walked}
 abbrev pub Outside : ℕ → ℕ → ℕ → Type 0
 Outside vc k p = (e : ℕ) → e < k → p ≡ placeOf vc e → ⊥
 
--- element e from k on is one, and so is each of another register's
+-- element e from k on is one
 pub past : (vc k e : ℕ) → k ≤ e → Outside vc k (placeOf vc e)
 past vc k e h f g q = omega arith
-
-pub other-register : (vc r k e : ℕ) → (r ≡ vc → ⊥) → k ≤ 64 → e < 64 → Outside vc k (placeOf r e)
-other-register vc r k e n h g f a q = n (omega arith)
 
 -- ---- one turn
 

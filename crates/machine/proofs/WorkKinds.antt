@@ -1,6 +1,6 @@
 -- Works by their kinds and numbers. Assumes nothing.
 use mathlib.Core.Path.{_≡_, refl, sym}
-use mathlib.Core.Bool.{Bool, true, false, _||_}
+use mathlib.Core.Bool.{true, false, _||_}
 use native.Mathlib.Omega.{arith}
 use lib.Dec.{eqb}
 use Rattle.numbers.proofs.Tests.{true-not-false}
@@ -127,12 +127,3 @@ not-compare LoadLongword e = ((λ q. omega arith), λ q. omega arith)
 not-compare LoadQuadword e = ((λ q. omega arith), λ q. omega arith)
 not-compare StoreLongword e = ((λ q. omega arith), λ q. omega arith)
 not-compare StoreQuadword e = ((λ q. omega arith), λ q. omega arith)
-
--- both sides of a test of two that failed
-pub neither-left : (a b : Bool) → (a || b) ≡ false → a ≡ false
-neither-left true b e = e
-neither-left false b e = refl
-
-pub neither-right : (a b : Bool) → (a || b) ≡ false → b ≡ false
-neither-right true b e = absurd (true-not-false (sym e))
-neither-right false b e = e

@@ -1,4 +1,4 @@
--- Numbers as sets of bits: unions and sections. Assumes nothing.
+-- Numbers as sets of bits: unions, sections and exclusive ors. Assumes nothing.
 use mathlib.Core.Path.{_≡_, refl, sym, ap, ap₂, _∙_}
 use mathlib.Core.Bool.{Bool, Bool·beq, true, false, not, _&&_, _||_}
 use mathlib.Core.Logic.{_⊎_, inl, inr}

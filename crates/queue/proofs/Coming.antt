@@ -89,7 +89,7 @@ never-stays iota x left left′ h c s e g =
     ∙ ap₂ (λ (t u : Bool). (iota || eqb e (element x)) && t || u) (ne-eqb never (position x) (λ z. omega arith)) (s e g)
     ∙ ap (λ (t : Bool). t || false) (and-none (iota || eqb e (element x)))
 
--- ---- an entry alone, of a queue's position
+-- ---- an entry tested by itself, of an instruction that is no IOTA
 module _ (n iotas : ℕ) (bound left : List ℕ) (x : ℕ) (few : n ≤ 16) (long : length left ≡ 64) (inside : position x < n) (plain : bit iotas (position x) ≡ false) where
   pub not-ready : (r : Bool) → r ≡ ready (getD bound (position x) 0) (getD left (element x) 0) (position x) → r ≡ false → mayCome n iotas bound left x ≡ false
   not-ready r is e =

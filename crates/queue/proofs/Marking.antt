@@ -318,7 +318,7 @@ module _ (n vlr iotas : ℕ) (few : n ≤ 16) (short : vlr ≤ 64) where
       unfolding verdictBy
       entry-stops h e = check-stop (followsBy iotas bound) (stepsBy n vlr iotas) list (hasCome left) i (inv .on) h (may-same (getD list i 0) ∙ e)
 
-      -- no step is missing exactly where no element waits for a position
+      -- no step is missing exactly where no element waits for a position of the queue
       complete : each (hasCome left) (stepsBy n vlr iotas) ≡ apart (2 ^ n - 1) (somewhere left 64)
       complete =
           same-bool (each (hasCome left) (stepsBy n vlr iotas)) (apart (2 ^ n - 1) (somewhere left 64))

@@ -112,11 +112,12 @@ followsBy iotas bound a x =
 unfoldable pub verdictBy : ℕ → ℕ → ℕ → List ℕ → List ℕ → Verdict
 verdictBy n vlr iotas bound list = check (followsBy iotas bound) (stepsBy n vlr iotas) list
 
--- ---- what is left: for each element the set of the positions that a step of it may still have to wait for
+-- ---- what is left: for each element the set of the positions whose step of it has not come; an IOTA's stays in each until its one step comes
 -- element e waits for position k no more
 abbrev pub gone : List ℕ → ℕ → ℕ → Bool
 gone left e k = not (bit (getD left e 0) k)
 
+-- the step x has come
 abbrev pub hasCome : List ℕ → ℕ → Bool
 hasCome left x = gone left (element x) (position x)
 
@@ -133,8 +134,8 @@ ready bound left p = bit left p && apart bound left
 abbrev pub never : ℕ
 never = 63
 
--- a position and those that it is bound to: its step may come where of these only itself is left. An IOTA's step waits for every element: its group is one
--- of which another position is always left
+-- a position and those that it is bound to: its step may come where of these only itself is left. An IOTA's step waits for every element: its group is a
+-- position that is always left, so that it is never seen to come by it
 abbrev pub groupOf : ℕ → List ℕ → ℕ → ℕ
 groupOf iotas bound k = pick (bit iotas k) (2 ^ never) (joined (getD bound k 0) k)
 
@@ -156,28 +157,29 @@ pub record Comes (n iotas : ℕ) (bound : List ℕ) (x : ℕ) (left left′ : Li
   pub may : mayCome n iotas bound left x ≡ true
   pub came : Came (bit iotas (position x)) x left left′
 
--- and so where it is seen to; else nothing has changed
+-- seen: x may come, and comes; not seen: nothing has changed
 pub record Passed (seen : Bool) (n iotas : ℕ) (bound : List ℕ) (x : ℕ) (left left′ : List ℕ) : Type 0 where
   pub comes : seen ≡ true → Comes n iotas bound x left left′
   pub same : seen ≡ false → left′ ≡ left
 
--- the k entries of a list from i on come, one after the other
+-- one entry more, after those before it
 pub record After (before : List ℕ → Type 0) (n iotas : ℕ) (bound : List ℕ) (x : ℕ) (left′ : List ℕ) : Type 0 where
   pub left : List ℕ
   pub so-far : before left
   pub comes : Comes n iotas bound x left left′
 
+-- the k entries of a list from i on come, one after the other
 unfoldable pub ComeOn : ℕ → ℕ → List ℕ → List ℕ → List ℕ → ℕ → List ℕ → ℕ → Type 0
 ComeOn n iotas bound list left i left′ zero = left′ ≡ left
 ComeOn n iotas bound list left i left′ (suc k) = After (λ (mid : List ℕ). ComeOn n iotas bound list left i mid k) n iotas bound (getD list (i + k) 0) left′
 
--- those from i to j
+-- those from i up to j, without j
 pub record ComeFrom (n iotas : ℕ) (bound list left : List ℕ) (i : ℕ) (left′ : List ℕ) (j : ℕ) : Type 0 where
   pub forth : i ≤ j
   pub inside : j ≤ length list
   pub on : ComeOn n iotas bound list left i left′ (j - i)
 
--- at the start: the elements from VLR on wait for IOTAs alone
+-- at the start: of the queue's positions only IOTAs are left from VLR on
 pub record Started (vlr iotas : ℕ) (left left′ : List ℕ) : Type 0 where
   pub long : length left′ ≡ length left
   pub low : (e : ℕ) → e < vlr → getD left′ e 0 ≡ getD left e 0

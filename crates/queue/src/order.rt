@@ -1,5 +1,5 @@
 // The check of an order list: one pass, with sets of positions. A set is a number whose bit k says that position k is in it. The table `left` has for each
-// element the positions that a step of it may still have to wait for.
+// element the positions whose step of it has not come; an IOTA's stays in every element's set until its one step comes.
 use crate::Verdict;
 use numbers::bits;
 ghost use mathlib.Core.Path.{_≡_};
@@ -7,12 +7,12 @@ ghost use mathlib.Core.Bool.{true, false, _&&_};
 ghost use Prim.Native.Nat.{ℕ, _≤_, _<_, _^_, _+_, _-_};
 ghost use lib.Dec.{eqb};
 ghost use lib.Bits.{bitOr};
-ghost use lib.ListN.{length, getD, set};
+ghost use lib.ListN.{length, getD};
 ghost use Rattle.numbers.specs.Choice.{pick};
 ghost use Rattle.numbers.specs.Bits.{bit};
 ghost use Rattle.queue.specs.declared.Verdict.the-variants.{Permitted, Refused};
 ghost use Rattle.queue.specs.Touch.{position, element};
-ghost use Rattle.queue.specs.Tables.{joined, parted, apart as apartOf, gone, somewhere as somewhereOf, ready as readyOf, never, groupOf, mayCome, Came, Passed, ComeFrom, Started, verdictBy};
+ghost use Rattle.queue.specs.Tables.{parted, apart as apartOf, gone, somewhere as somewhereOf, ready as readyOf, never, groupOf, mayCome, Came, Passed, ComeFrom, Started, verdictBy};
 
 // No position is in both sets.
 fn apart(a: u64, b: u64) -> bool
@@ -21,7 +21,7 @@ fn apart(a: u64, b: u64) -> bool
     (a & b) == 0
 }
 
-// At the start all is left; but the elements from VLR on wait for IOTAs alone.
+// At the start every position is left; from VLR on only IOTAs, and position 63, which no queue has: it is always left (`group` says why).
 fn start(left: &mut [u64; 64], vlr: u64, iotas: u64)
     requires { ⌜ (length (now left) ≡ 64) × (vlr ≤ 64) ⌝ }
     ensures { λ r. ⌜ Started vlr iotas (now (left .entry)) (now (left .exit)) ⌝ }
@@ -46,7 +46,7 @@ fn somewhere(left: &[u64; 64]) -> u64
     any
 }
 
-// No element waits for position p any more.
+// No element waits for position p any more, whether it did or not.
 fn release(left: &mut [u64; 64], p: usize)
     requires { ⌜ (length (now left) ≡ 64) × (p < 64) ⌝ }
     ensures { λ r. ⌜ (length (now (left .exit)) ≡ 64) × ((e : ℕ) → e < 64 → getD (now (left .exit)) e 0 ≡ parted (getD (now (left .entry)) e 0) p) ⌝ }
@@ -82,7 +82,8 @@ fn iota_comes(left: &mut [u64; 64], bound: u64, x: u64) -> bool
     true
 }
 
-// A position's group: itself and those that it is bound to. An IOTA's is one of which a position is always left.
+// A position's group: itself and those that it is bound to. An IOTA waits for every element, so its group is position 63, which is always left: `passes` never
+// sees it come, and `comes` decides.
 fn group(iotas: u64, bound: u64, own: u64) -> u64
     ensures { λ r. ⌜ r ≡ pick (apartOf iotas own) (bitOr bound own) (2 ^ never) ⌝ }
 {
@@ -127,7 +128,7 @@ fn comes(left: &mut [u64; 64], n: usize, iotas: u64, bound: &[u64; 16], x: u64) 
     true
 }
 
-// The set of element e. That of element `at` is at hand: just stored, it would have to be waited for.
+// The set of element e. If e is `at`, it is in `kept`: reading it back would wait for the store just made.
 fn fetch(left: &[u64; 64], at: usize, kept: u64, e: usize) -> u64
     requires { ⌜ (getD (now left) at 0 ≡ kept) × (e < 64) ⌝ }
     ensures { λ r. ⌜ r ≡ getD (now (left .entry)) e 0 ⌝ }
@@ -138,15 +139,15 @@ fn fetch(left: &[u64; 64], at: usize, kept: u64, e: usize) -> u64
     left[e]
 }
 
-// Whether an entry is seen to come; and an element whose set is at hand, with the set.
+// Whether an entry is seen to come; and an element with its set, which need not be read back.
 struct Pass {
     seen: bool,
     at: usize,
     kept: u64,
 }
 
-// Entry x is seen to come, and comes, where nothing of its group is left once its position is turned in its element's set. The set of element `at` is at
-// hand.
+// Flips x's position in its element's set: if nothing of its group is left then, x may come, and comes. Not seen decides nothing, since it may be an IOTA:
+// `comes` tells. The set of element `at` is in `kept`.
 fn passes(
     left: &mut [u64; 64],
     n: usize,
@@ -189,7 +190,7 @@ fn passes(
     }
 }
 
-// The two entries from i on come, as far as they are seen to: the entry that this stops at. The second finds the first one's set at hand.
+// Up to two entries from i on: the place of the first that is not seen to come, or i + 2. The second is read only after the first has come.
 fn pair(
     left: &mut [u64; 64],
     n: usize,
@@ -220,7 +221,7 @@ fn pair(
     i + 2
 }
 
-// The entries from `from` on come, as long as they are seen to and there are four: the entry that this stops at.
+// Goes on from `from` while four entries remain and each is seen to come; gives where it stops. IOTAs stay out of this loop, which is the fast one.
 fn ahead(
     left: &mut [u64; 64],
     n: usize,
@@ -251,22 +252,23 @@ fn ahead(
 }
 
 // What the check says of a list all of whose entries have come.
-fn ended(left: &[u64; 64], n: usize, length: usize) -> Verdict
+fn ended(left: &[u64; 64], n: usize, entries: usize) -> Verdict
     requires { ⌜ n ≤ 16 ⌝ }
-    ensures { λ r. ⌜ r ≡ pick (apartOf (2 ^ n - 1) (somewhereOf (now (left .entry)) 64)) Permitted (Refused length) ⌝ }
+    ensures { λ r. ⌜ r ≡ pick (apartOf (2 ^ n - 1) (somewhereOf (now (left .entry)) 64)) Permitted (Refused entries) ⌝ }
 {
     let all: u64 = (1 << n) - 1;
-    let mut e: usize = 0;
-    while e < 64 {
-        if !apart(all, left[e]) {
-            return Verdict::Refused(length as u64);
+    let mut j: usize = 0;
+    while j < 64 {
+        if !apart(all, left[j]) {
+            return Verdict::Refused(entries as u64);
         }
-        e += 1;
+        j += 1;
     }
     Verdict::Permitted
 }
 
-// The pass over the list. It never reads past the first bad entry.
+// The pass over the list. Where `ahead` stops (an IOTA, a bad entry, the last three), `comes` tests that entry by itself. No entry is read past the first bad
+// one.
 pub fn check(n: usize, vlr: u64, iotas: u64, bound: &[u64; 16], list: &[u64]) -> Verdict
     requires { ⌜ (n ≤ 16) × (vlr ≤ 64) ⌝ }
     requires { ⌜ ((p k : ℕ) → p < n → bit (getD (now bound) p 0) k ≡ true → k < p) ⌝ }

@@ -1,5 +1,5 @@
 -- `ended` meets its contract: none of the elements so far waits for a position of the queue. Assumes nothing.
-use mathlib.Core.Path.{_≡_, refl, ap, _∙_}
+use mathlib.Core.Path.{_≡_}
 use mathlib.Core.Bool.{true}
 use Prim.Native.Nat.{_≤_, _-_, _^_}
 use native.Mathlib.Omega.{arith}
@@ -11,10 +11,10 @@ use Rattle.queue.proofs.order.ended.Statement.{statement}
 use Rattle.queue.proofs.order.ended.Tie as tie
 
 abbrev Inv-loop : tie.InvT-loop
-Inv-loop left n length all e₀ e = (e ≤ 64) × (apart (2 ^ n - 1) (somewhere left e) ≡ true)
+Inv-loop left n entries all j₀ j = (j ≤ 64) × (apart (2 ^ n - 1) (somewhere left j) ≡ true)
 
 abbrev μ-loop : tie.MeasureT-loop
-μ-loop left n length all e₀ e = 64 - e
+μ-loop left n entries all j₀ j = 64 - j
 
 shl-all : tie.Need-shl-all Inv-loop μ-loop
 shl-all c = omega (arith, c .pre)
@@ -37,10 +37,10 @@ apart-requires c κs = search needs
 returns : tie.Need-returns Inv-loop μ-loop
 returns c =
     let a = c .before in let turn = a .before .before in let at = turn .before in let s = at .before in
-    one-waits _ _ _ (at .loop .e) (s .pre) (turn .loop-test .taken) _ (a .apart .ensures) (not-true _ (c .if1 .taken))
+    one-waits _ _ _ (at .loop .j) (s .pre) (omega (arith, turn .loop-test .taken)) _ (a .apart .ensures) (not-true _ (c .if1 .taken))
 
-add-e : tie.Need-add-e Inv-loop μ-loop
-add-e c = search needs
+add-j : tie.Need-add-j Inv-loop μ-loop
+add-j c = search needs
 
 loop-less : tie.Need-loop-less Inv-loop μ-loop
 loop-less c = search needs
@@ -48,12 +48,12 @@ loop-less c = search needs
 loop-again : tie.Need-loop-again Inv-loop μ-loop
 loop-again c =
     let a = c .before in let at = a .before .before .before in let s = at .before in
-    (search needs, no-more-waits _ _ (at .loop .e) (s .pre) (at .loop .inv .1) _ (a .apart .ensures) (not-false _ (c .if1 .left)))
+    (search needs, no-more-waits _ _ (at .loop .j) (s .pre) (at .loop .inv .1) _ (a .apart .ensures) (not-false _ (c .if1 .left)))
 
 returns-2 : tie.Need-returns-2 Inv-loop μ-loop
 returns-2 c =
     let at = c .before in let s = at .before in let done = c .loop-test .left in let near = at .loop .inv .0 in
-    all-come (s .args .left .now) (s .args .n) (s .args .length) (at .loop .e) (omega arith) (at .loop .inv .1)
+    all-come (s .args .left .now) (s .args .n) (s .args .entries) (at .loop .j) (omega arith) (at .loop .inv .1)
 
 pub ended-spec : {M : Type 1} → statement M
 ended-spec =
@@ -68,7 +68,7 @@ ended-spec =
     element-copy-out-apart
     apart-requires
     returns
-    add-e
+    add-j
     loop-less
     loop-again
     returns-2)

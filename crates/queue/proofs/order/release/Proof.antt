@@ -1,4 +1,4 @@
--- `release` meets its contract: the loop joins the position to each set. Assumes nothing.
+-- `release` meets its contract: the loop takes the position out of each set. Assumes nothing.
 use mathlib.Core.Path.{_∙_}
 use Prim.Native.Nat.{ℕ, _≤_, _-_}
 use native.Mathlib.Omega.{arith}
