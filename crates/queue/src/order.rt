@@ -237,8 +237,12 @@ fn ahead(
     requires { ⌜ ((e : ℕ) → e < 64 → gone (now left) e never ≡ false) ⌝ }
     ensures { λ r. ⌜ ComeFrom n iotas (now (bound .entry)) (now (list .entry)) (now (left .entry)) from (now (left .exit)) r ⌝ }
 {
+    if list.len() < 3 {
+        return from;
+    }
+    let stop = list.len() - 3;
     let mut i = from;
-    while i + 3 < list.len() {
+    while i < stop {
         let half = pair(&mut *left, n, iotas, bound, groups, list, i);
         if half != i + 2 {
             return half;

@@ -8,61 +8,64 @@ use Rattle.queue.proofs.order.ahead.Statement.{statement}
 use Rattle.queue.proofs.order.ahead.Tie as tie
 
 abbrev Inv-loop : tie.InvT-loop
-Inv-loop left₀ n iotas bound groups list from i₀ left i = Going n iotas bound list left₀ from left i
+Inv-loop left₀ n iotas bound groups list from stop i₀ left i = Going n iotas bound list left₀ from left i
 
 abbrev μ-loop : tie.MeasureT-loop
-μ-loop left₀ n iotas bound groups list from i₀ left i = length list - i
+μ-loop left₀ n iotas bound groups list from stop i₀ left i = length list - i
+
+returns : tie.Need-returns Inv-loop μ-loop
+returns c = come-none _ _ _ _ _ _ (c .before .before .pre .0 .2)
+
+sub-stop : tie.Need-sub-stop Inv-loop μ-loop
+sub-stop c = c .if1 .left
 
 loop-holds : tie.Need-loop-holds Inv-loop μ-loop
 loop-holds c =
-    let s = c .before in
+    let s = c .before .before in
     record { so-far = come-none _ _ _ _ _ _ (s .pre .0 .2); long = s .pre .0 .0; stays = s .pre .1 .1 .1 }
-
-add-loop : tie.Need-add-loop Inv-loop μ-loop
-add-loop c = omega (arith, c .loop .inv .so-far .inside, c .before .before .good .1 .1 .1 .1 .1 .0)
 
 pair-requires : tie.Need-pair-requires Inv-loop μ-loop
 pair-requires c κs =
-    let turn = c .before in let at = turn .before in let s = at .before .before in let more = turn .loop-test .taken in
+    let turn = c .before in let at = turn .before in let s = at .before .before .before in let more = turn .loop-test .taken in
     ((at .loop .inv .long, s .pre .0 .1, omega arith), (s .pre .1 .0, (s .pre .1 .1 .0, at .loop .inv .stays)))
-
-add-if1 : tie.Need-add-if1 Inv-loop μ-loop
-add-if1 c = search needs
-
-returns : tie.Need-returns Inv-loop μ-loop
-returns c =
-    let v = c .before in let at = v .before .before .before in let s = at .before .before in
-    goes-through _ _ _ _ _ _ _ _ (s .pre .0 .1) (at .loop .inv) _ _ (v .pair .ensures) .so-far
-
-pair-requires-2 : tie.Need-pair-requires-2 Inv-loop μ-loop
-pair-requires-2 c κs =
-    let e = c .before in let v = e .before in let turn = v .before .before in let at = turn .before in let s = at .before .before in
-    let more = turn .loop-test .taken in let two = e .if1 .left in
-    let half = goes-through _ _ _ _ _ _ _ _ (s .pre .0 .1) (at .loop .inv) _ _ (v .pair .ensures) in
-    ((half .long, s .pre .0 .1, omega arith), (s .pre .1 .0, (s .pre .1 .1 .0, half .stays)))
 
 add-if2 : tie.Need-add-if2 Inv-loop μ-loop
 add-if2 c = search needs
 
 returns-2 : tie.Need-returns-2 Inv-loop μ-loop
 returns-2 c =
-    let w = c .before in let v = w .before .before .before in let at = v .before .before .before in let s = at .before .before in
+    let v = c .before in let at = v .before .before .before in let s = at .before .before .before in
+    goes-through _ _ _ _ _ _ _ _ (s .pre .0 .1) (at .loop .inv) _ _ (v .pair .ensures) .so-far
+
+pair-requires-2 : tie.Need-pair-requires-2 Inv-loop μ-loop
+pair-requires-2 c κs =
+    let e = c .before in let v = e .before in let turn = v .before .before in let at = turn .before in let s = at .before .before .before in
+    let more = turn .loop-test .taken in let two = e .if2 .left in
+    let half = goes-through _ _ _ _ _ _ _ _ (s .pre .0 .1) (at .loop .inv) _ _ (v .pair .ensures) in
+    ((half .long, s .pre .0 .1, omega arith), (s .pre .1 .0, (s .pre .1 .1 .0, half .stays)))
+
+add-if3 : tie.Need-add-if3 Inv-loop μ-loop
+add-if3 c = search needs
+
+returns-3 : tie.Need-returns-3 Inv-loop μ-loop
+returns-3 c =
+    let w = c .before in let v = w .before .before .before in let at = v .before .before .before in let s = at .before .before .before in
     let half = goes-through _ _ _ _ _ _ _ _ (s .pre .0 .1) (at .loop .inv) _ _ (v .pair .ensures) in
     goes-through _ _ _ _ _ _ _ _ (s .pre .0 .1) half _ _ (w .pair2 .ensures) .so-far
 
 loop-less : tie.Need-loop-less Inv-loop μ-loop
 loop-less c =
     let w = c .before in let e = w .before .before in let turn = e .before .before .before in
-    omega (arith, turn .loop-test .taken, e .if1 .left, c .if2 .left)
+    omega (arith, turn .loop-test .taken, e .if2 .left, c .if3 .left)
 
 loop-again : tie.Need-loop-again Inv-loop μ-loop
 loop-again c =
-    let w = c .before in let v = w .before .before .before in let at = v .before .before .before in let s = at .before .before in
+    let w = c .before in let v = w .before .before .before in let at = v .before .before .before in let s = at .before .before .before in
     let half = goes-through _ _ _ _ _ _ _ _ (s .pre .0 .1) (at .loop .inv) _ _ (v .pair .ensures) in
     goes-through _ _ _ _ _ _ _ _ (s .pre .0 .1) half _ _ (w .pair2 .ensures)
 
-returns-3 : tie.Need-returns-3 Inv-loop μ-loop
-returns-3 c = c .before .loop .inv .so-far
+returns-4 : tie.Need-returns-4 Inv-loop μ-loop
+returns-4 c = c .before .loop .inv .so-far
 
 pub ahead-spec : {M : Type 1} → statement M
 ahead-spec =
@@ -70,14 +73,15 @@ ahead-spec =
     (tie.spec
     Inv-loop
     μ-loop
-    loop-holds
-    add-loop
-    pair-requires
-    add-if1
     returns
-    pair-requires-2
+    sub-stop
+    loop-holds
+    pair-requires
     add-if2
     returns-2
+    pair-requires-2
+    add-if3
+    returns-3
     loop-less
     loop-again
-    returns-3)
+    returns-4)
