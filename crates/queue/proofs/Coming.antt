@@ -14,6 +14,7 @@ use lib.Seq.{getD-set-same, getD-set-other}
 use Rattle.numbers.specs.Choice.{pick}
 use Rattle.numbers.specs.Bits.{bit}
 use Rattle.numbers.proofs.BitLaws.{one-shifted}
+use Rattle.numbers.proofs.Tests.{true-not-false}
 use Rattle.queue.specs.Touch.{position, element}
 use Rattle.queue.specs.Tables.{joined, parted, apart, gone, somewhere, ready, never, groupOf, mayCome, Came, Comes, Passed, ComeOn, ComeFrom}
 use Rattle.queue.proofs.Tests.{and-none}
@@ -124,14 +125,12 @@ module _ (n iotas : ℕ) (bound left : List ℕ) (x here : ℕ) (few : n ≤ 16)
     -- of an IOTA's group a position is left
     never-free : free true ≡ true → ⊥
     never-free e =
-        clash (sym (apart→ (2 ^ never) (bitXor (getD left (element x) 0) (2 ^ position x)) e never (bit-one never never))
-        ∙ ap not (bit-turned (getD left (element x) 0) (position x) never ∙ ap₂ (λ (b t : Bool). not (Bool·beq b t)) is-left (ne-eqb never (position x) (λ z. omega arith))))
+        true-not-false (sym (ap not (bit-turned (getD left (element x) 0) (position x) never
+        ∙ ap₂ (λ (b t : Bool). not (Bool·beq b t)) is-left (ne-eqb never (position x) (λ z. omega arith))))
+        ∙ apart→ (2 ^ never) (bitXor (getD left (element x) 0) (2 ^ position x)) e never (bit-one never never))
       where
         is-left : bit (getD left (element x) 0) never ≡ true
         is-left = sym (not-not (bit (getD left (element x) 0) never)) ∙ ap not stays
-
-        clash : true ≡ false → ⊥
-        clash f = subst T f tt
 
     -- where nothing of the group is left, it is no IOTA's, and its step may come
     free-ready : (t : Bool) → bit iotas (position x) ≡ t → apart group turned ≡ true
@@ -175,6 +174,25 @@ module _ (n iotas : ℕ) (bound list left : List ℕ) (from : ℕ) where
             (record { left = mid; so-far = c .on; comes = subst (λ (a : ℕ). Comes n iotas bound (getD list a 0) mid left′) j m });
       }
 
+-- what an entry that comes keeps, several keep
+pub along : (n iotas : ℕ) (bound list : List ℕ) (P : List ℕ → ℕ → Type 0)
+    → ((l l′ : List ℕ) (k : ℕ) → P l k → k < length list → Comes n iotas bound (getD list k 0) l l′ → P l′ (k + 1))
+    → (left : List ℕ) (i : ℕ) → P left i → (left′ : List ℕ) (j : ℕ) → ComeFrom n iotas bound list left i left′ j → P left′ j
+unfolding ComeOn
+along n iotas bound list P one left i p left′ j c =
+    let f = c .forth in let h = c .inside in let there : i + (j - i) ≡ j = omega arith in
+    subst (P left′) there (go (j - i) left′ (omega arith) (c .on))
+  where
+    go : (k : ℕ) (l : List ℕ) → i + k ≤ length list → ComeOn n iotas bound list left i l k → P l (i + k)
+    go zero l h o = subst (P l) none (subst (λ (t : List ℕ). P t i) (sym o) p)
+      where
+        none : i ≡ i + 0
+        none = omega arith
+    go (suc k) l h o = subst (P l) more (one (o .left) l (i + k) (go k (o .left) (omega arith) (o .so-far)) (omega arith) (o .comes))
+      where
+        more : i + k + 1 ≡ i + suc k
+        more = omega arith
+
 -- a loop that goes on so: how far it is, and what it keeps
 pub record Going (n iotas : ℕ) (bound list left : List ℕ) (from : ℕ) (left′ : List ℕ) (i : ℕ) : Type 0 where
   pub so-far : ComeFrom n iotas bound list left from left′ i
@@ -189,22 +207,7 @@ goes-on n iotas bound list left from mid left′ i few g h c = record {
   stays = never-stays (bit iotas (position (getD list i 0))) (getD list i 0) mid left′ (let p = inside-of n iotas bound mid (getD list i 0) (c .may) in omega arith) (c .came) (g .stays);
 }
 
--- several more
 pub goes-through : (n iotas : ℕ) (bound list left : List ℕ) (from : ℕ) (mid : List ℕ) (i : ℕ) → n ≤ 16 → Going n iotas bound list left from mid i
     → (left′ : List ℕ) (j : ℕ) → ComeFrom n iotas bound list mid i left′ j → Going n iotas bound list left from left′ j
-unfolding ComeOn
-goes-through n iotas bound list left from mid i few g left′ j c =
-    let f = c .forth in let h = c .inside in let there : i + (j - i) ≡ j = omega arith in
-    subst (Going n iotas bound list left from left′) there (go (j - i) left′ (omega arith) (c .on))
-  where
-    go : (k : ℕ) (l : List ℕ) → i + k ≤ length list → ComeOn n iotas bound list mid i l k → Going n iotas bound list left from l (i + k)
-    go zero l h o = subst (Going n iotas bound list left from l) none (subst (λ (t : List ℕ). Going n iotas bound list left from t i) (sym o) g)
-      where
-        none : i ≡ i + 0
-        none = omega arith
-    go (suc k) l h o =
-        subst (Going n iotas bound list left from l) more
-        (goes-on n iotas bound list left from (o .left) l (i + k) few (go k (o .left) (omega arith) (o .so-far)) (omega arith) (o .comes))
-      where
-        more : i + k + 1 ≡ i + suc k
-        more = omega arith
+goes-through n iotas bound list left from mid i few =
+    along n iotas bound list (Going n iotas bound list left from) (λ l l′ k g h c. goes-on n iotas bound list left from l l′ k few g h c) mid i

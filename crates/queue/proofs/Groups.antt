@@ -14,6 +14,7 @@ use Rattle.numbers.specs.Choice.{pick}
 use Rattle.numbers.specs.Bits.{bit}
 use Rattle.numbers.proofs.BitLaws.{one-shifted}
 use Rattle.queue.specs.Tables.{joined, apart, ready, never, groupOf}
+use Rattle.queue.proofs.Tests.{or-always}
 use Rattle.queue.proofs.Sets.{bit-joined, bit-turned, turned-out, apart→, →apart, apart-one}
 
 module _ (bound left p : ℕ) (earlier : (k : ℕ) → bit bound k ≡ true → k < p) where
@@ -33,16 +34,12 @@ module _ (bound left p : ℕ) (earlier : (k : ℕ) → bit bound k ≡ true → 
           ∙ sym (ap not (bit-turned left p p ∙ ap (λ (t : Bool). not (Bool·beq (bit left p) t)) (eq-eqb p p refl)))
           ∙ apart→ (joined bound p) turned e p (bit-joined bound p p ∙ ap (λ (t : Bool). t || bit bound p) (eq-eqb p p refl))
 
-      as-bound : (s : Bool) → (s || true) ≡ true
-      as-bound true = refl
-      as-bound false = refl
-
       others : (k : ℕ) → bit bound k ≡ true → not (bit left k) ≡ true
       others k b =
           let h = earlier k b in
           sym (ap (λ (t : Bool). t || not (bit left k)) (ne-eqb k p (λ z. omega arith)))
           ∙ sym (turned-out left p itself k)
-          ∙ apart→ (joined bound p) turned e k (bit-joined bound p k ∙ ap (λ (t : Bool). eqb k p || t) b ∙ as-bound (eqb k p))
+          ∙ apart→ (joined bound p) turned e k (bit-joined bound p k ∙ ap (λ (t : Bool). eqb k p || t) b ∙ or-always (eqb k p))
 
 -- ---- as the code works a group out
 -- a shift by one

@@ -14,18 +14,19 @@ use Rattle.numbers.specs.Choice.{pick}
 use Rattle.numbers.specs.Bits.{bit}
 use lib.Pow.{pow-pos}
 use Rattle.numbers.proofs.BitLaws.{one-shifted}
+use Rattle.numbers.proofs.Tests.{true-not-false}
 use Rattle.numbers.proofs.Sets.{bit-or, bit-none}
 use Rattle.queue.specs.declared.Verdict.{Verdict}
 use Rattle.queue.specs.declared.Verdict.the-variants.{Permitted, Refused}
 use Rattle.queue.specs.Order.{Mem, has, each}
 use Rattle.queue.specs.Touch.{position, element}
-use Rattle.queue.specs.Tables.{apart, countBy, isStepBy, stepsBy, followsBy, verdictBy, gone, hasCome, somewhere, ready, never, mayCome, Came, ComeOn, ComeFrom, Started}
+use Rattle.queue.specs.Tables.{apart, countBy, isStepBy, stepsBy, followsBy, verdictBy, gone, hasCome, somewhere, ready, never, mayCome, Came, ComeFrom, Started}
 use Rattle.queue.proofs.Tests.{and-none, or-always, T-true, each→, →each, has→mem, mem→has}
 use Rattle.queue.proofs.Places.{same-bool, true-T}
 use Rattle.queue.proofs.Steps.{passing→, →passing}
 use Rattle.queue.proofs.Accepting.{both}
 use Rattle.queue.proofs.Sets.{not-not, bit-joined, bit-below, apart→, →apart, apart-or}
-use Rattle.queue.proofs.Coming.{never-stays}
+use Rattle.queue.proofs.Coming.{never-stays, along}
 use Rattle.queue.proofs.CheckLoop.{CheckInv, mayBy, check-start, check-stop, check-on, check-end}
 
 -- the set of the positions below n is worked out without wrapping
@@ -36,16 +37,13 @@ ones-fit n h = rw (one-shifted n 64 (omega arith)) (pow-pos n)
 both-true : (a b : Bool) → a ≡ true → b ≡ true → a && b ≡ true
 both-true a b e f = ap₂ (λ (x y : Bool). x && y) e f
 
-clash : true ≡ false → ⊥
-clash e = subst T e tt
-
 implied : (a b : Bool) → (a ≡ true → b ≡ true) → T (not a || b)
 implied true b f = T-true b (f refl)
 implied false b f = tt
 
 implies : (a b : Bool) → T (not a || b) → a ≡ true → b ≡ true
 implies true b t e = true-T b t
-implies false b t e = absurd (clash (sym e))
+implies false b t e = absurd (true-not-false e)
 
 -- ---- a step, and its position and element
 position-at : (k e : ℕ) → e < 64 → position (k * 64 + e) ≡ k
@@ -108,8 +106,8 @@ one-waits left n i e few small r is h = go (apart (2 ^ n - 1) (somewhere left 64
     go : (t : Bool) → apart (2 ^ n - 1) (somewhere left 64) ≡ t → Refused i ≡ pick t Permitted (Refused i)
     go false f = refl
     go true f =
-        absurd (clash (sym (→apart (2 ^ n - 1) (getD left e 0) (λ k g. somewhere→ left 64 k (apart→ (2 ^ n - 1) (somewhere left 64) f k g) e small))
-        ∙ ap (λ (s : ℕ). apart (s - 1) (getD left e 0)) (sym (one-shifted n 64 (omega arith))) ∙ sym is ∙ h))
+        absurd (true-not-false (sym h ∙ is ∙ ap (λ (s : ℕ). apart (s - 1) (getD left e 0)) (one-shifted n 64 (omega arith))
+        ∙ →apart (2 ^ n - 1) (getD left e 0) (λ k g. somewhere→ left 64 k (apart→ (2 ^ n - 1) (somewhere left 64) f k g) e small)))
 
 pub all-come : (left : List ℕ) (n i e : ℕ) → e ≡ 64 → apart (2 ^ n - 1) (somewhere left e) ≡ true → Permitted ≡ pick (apart (2 ^ n - 1) (somewhere left 64)) Permitted (Refused i)
 all-come left n i e z h = sym (ap (λ (t : Bool). pick t Permitted (Refused i)) (ap (λ (j : ℕ). apart (2 ^ n - 1) (somewhere left j)) (sym z) ∙ h))
@@ -394,23 +392,8 @@ module _ (n vlr iotas : ℕ) (few : n ≤ 16) (short : vlr ≤ 64) where
 
     -- ---- entries that come one after the other
     module _ (list left : List ℕ) (i : ℕ) (inv : Marked n vlr iotas bound list left i) where
-      entries-come : (k : ℕ) (left′ : List ℕ) → i + k ≤ length list → ComeOn n iotas bound list left i left′ k → Marked n vlr iotas bound list left′ (i + k)
-      unfolding ComeOn
-      entries-come zero left′ h c = subst (Marked n vlr iotas bound list left′) none (subst (λ (l : List ℕ). Marked n vlr iotas bound list l i) (sym c) inv)
-        where
-          none : i ≡ i + 0
-          none = omega arith
-      entries-come (suc k) left′ h c =
-          subst (Marked n vlr iotas bound list left′) more
-          (entry-comes list (c .left) (i + k) (entries-come k (c .left) (omega arith) (c .so-far)) (omega arith) (c .comes .may) left′ (c .comes .came))
-        where
-          more : i + k + 1 ≡ i + suc k
-          more = omega arith
-
       pub come-marked : (left′ : List ℕ) (j : ℕ) → ComeFrom n iotas bound list left i left′ j → Marked n vlr iotas bound list left′ j
-      come-marked left′ j c =
-          let f = c .forth in let g = c .inside in let there : i + (j - i) ≡ j = omega arith in
-          subst (Marked n vlr iotas bound list left′) there (entries-come (j - i) left′ (omega arith) (c .on))
+      come-marked = along n iotas bound list (Marked n vlr iotas bound list) (λ l l′ k m h c. entry-comes list l k m h (c .may) l′ (c .came)) left i inv
 
     -- ---- at the start nothing has come
     module _ (list left : List ℕ) (starts : Started vlr iotas (replicate 64 18446744073709551615) left) where

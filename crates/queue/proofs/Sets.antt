@@ -1,17 +1,18 @@
 -- Sets of positions: a number whose bit k says that k is in it. Assumes nothing.
-use mathlib.Core.Path.{_≡_, refl, sym, ap, ap₂, subst, _∙_}
+use mathlib.Core.Path.{_≡_, refl, sym, ap, ap₂, _∙_}
 use mathlib.Core.Bool.{Bool, Bool·beq, true, false, not, _&&_, _||_}
 use Prim.Native.Nat.{ℕ, suc, _+_, _-_, _*_, _/_, _%_, _^_, _<_}
 use native.Mathlib.Nat.{mul-mod-left, pow-suc, div-eq-of-lt, zero-div}
 use native.Mathlib.Omega.{arith}
 use native.Mathlib.Decide.{ℕ-discrete, decLt}
 use borrow.Author.Tests.{eq-eqb, ne-eqb, eqb-true, lt-ltb, le-ltb}
-use lib.Dec.{T, eqb, ltb}
+use lib.Dec.{eqb, ltb}
 use lib.Bits.{bitOr, bitAnd, bitXor}
 use lib.Pow.{shl-shr, pow-add, pow-lt, pow-pos}
 use Rattle.numbers.specs.Choice.{pick}
 use Rattle.numbers.specs.Bits.{bit}
 use Rattle.numbers.proofs.BitLaws.{digit-complement, bit-above}
+use Rattle.numbers.proofs.Tests.{true-not-false}
 use Rattle.numbers.proofs.Sets.{same-bits, bit-or, bit-and, bit-xor, bit-none}
 use Rattle.queue.specs.Tables.{joined, parted, apart}
 
@@ -129,11 +130,8 @@ pub →apart : (a b : ℕ) → ((k : ℕ) → bit a k ≡ true → not (bit b k)
 pub apart-one : (s k : ℕ) → apart s (2 ^ k) ≡ not (bit s k)
 apart-one s k = go (apart s (2 ^ k)) (bit s k) refl refl
   where
-    clash : true ≡ false → ⊥
-    clash f = subst T f tt
-
     is-in : bit s k ≡ false → (j : ℕ) → bit s j ≡ true → Dec (j ≡ k) → not (bit (2 ^ k) j) ≡ true
-    is-in e j h (yes z) = absurd (clash (sym h ∙ ap (bit s) z ∙ e))
+    is-in e j h (yes z) = absurd (true-not-false (sym e ∙ sym (ap (bit s) z) ∙ h))
     is-in e j h (no z) = ap not (bit-one k j ∙ ne-eqb j k z)
 
     go : (a b : Bool) → apart s (2 ^ k) ≡ a → bit s k ≡ b → a ≡ not b
