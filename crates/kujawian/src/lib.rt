@@ -219,9 +219,9 @@ pub extern "C" fn kuj_load(
 pub extern "C" fn kuj_reading(
     elements: &[u64; 1024],
     control: &[u64; 5],
-    reg: u8,
-    element: u8,
-    kind: u8,
+    reg: u32,
+    element: u32,
+    kind: u32,
     kind_read: &mut u64,
     bits: &mut u64,
     beside: &mut u64,
@@ -231,8 +231,8 @@ pub extern "C" fn kuj_reading(
     let given = panel::reading(
         elements,
         record::of(control),
-        Register(reg),
-        Element(element),
+        Register(reg as usize),
+        Element(element as usize),
         kind,
     );
     *beside = 0;

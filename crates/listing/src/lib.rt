@@ -24,8 +24,8 @@ fn put_element(text: &mut [u8], at: usize, k: usize, contents: u64) -> usize
     write::element_line(
         text,
         at,
-        Register((k / 64) as u8),
-        Element((k % 64) as u8),
+        Register(k / 64),
+        Element(k % 64),
         contents,
     )
 }

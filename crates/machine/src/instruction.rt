@@ -168,7 +168,7 @@ pub fn step(
     let vlr = progress.control.vlr;
     let vmr = progress.control.vmr;
     let vcr = progress.control.vcr;
-    let i = element.0 as usize;
+    let i = element.0;
     let work = instruction.work;
     if crate::is_iota(work) {
         let done = effect(elements, instruction, scalar, 0, vlr, vmr, vcr);

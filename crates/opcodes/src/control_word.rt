@@ -1,8 +1,8 @@
 // The control word: its fields, and the words that are reserved.
 use crate::ControlWord;
+use crate::Field;
 use crate::Instruction;
 use crate::Work;
-use state::Register;
 ghost use mathlib.Core.Path.{_≡_};
 ghost use Rattle.opcodes.specs.ControlWord.{relationRefused, relationRefusedF, conversionRefused, gatherRefused, refused as refusedOf, instructionOf};
 ghost use Rattle.opcodes.specs.Decoding.{ControlWordRead};
@@ -60,9 +60,9 @@ fn instruction(work: Work, scalar: bool, cntrl: u16) -> Instruction
         moe: cntrl / 32768 % 2 == 1,
         mtf: cntrl / 16384 % 2 == 1,
         exc: cntrl / 8192 % 2 == 1,
-        va: Register((cntrl / 256 % 16) as u8),
-        vb: Register((cntrl / 16 % 16) as u8),
-        vc: Register((cntrl % 16) as u8),
+        va: Field((cntrl / 256 % 16) as u8),
+        vb: Field((cntrl / 16 % 16) as u8),
+        vc: Field((cntrl % 16) as u8),
     }
 }
 

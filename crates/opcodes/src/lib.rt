@@ -1,5 +1,6 @@
 // Opcodes and control words: which instructions are accepted, and what they say.
 use state::Register;
+ghost use mathlib.Core.Path.{_≡_};
 ghost use Rattle.opcodes.specs.Decoding.{Decodes};
 
 pub mod control_word;
@@ -37,6 +38,18 @@ pub enum Opcode {
     Reserved,
 }
 
+// A field of the control word, four bits: the number of a register or, where the work takes none there, of a conversion or a relation.
+pub struct Field(pub u8);
+
+impl Field {
+    // The register that it names.
+    pub fn register(self) -> Register
+        ensures { λ r. ⌜ r .0 ≡ self .0 ⌝ }
+    {
+        Register(self.0 as usize)
+    }
+}
+
 // A decoded instruction: the one value that the layers above work from.
 pub struct Instruction {
     pub work: Work,
@@ -47,11 +60,11 @@ pub struct Instruction {
     pub mtf: bool,
     // Integer overflow and floating underflow are recorded.
     pub exc: bool,
-    // The conversion, for convert.
-    pub va: Register,
-    pub vb: Register,
-    // <2:0> is the relation, for compare.
-    pub vc: Register,
+    // Va; the conversion, for convert.
+    pub va: Field,
+    pub vb: Field,
+    // Vc; <2:0> is the relation, for compare.
+    pub vc: Field,
 }
 
 // What the control word of an accepted opcode says.

@@ -17,7 +17,7 @@ pub enum Panel {
 }
 
 // There is such a field.
-fn is_field(register: Register, element: Element, kind: u8) -> bool
+fn is_field(register: Register, element: Element, kind: u32) -> bool
     ensures { λ r. ⌜ r ≡ isField (register .0) (element .0) kind ⌝ }
 {
     (register.0 < 16) & ((element.0 < 64) & (kind < 2))
@@ -31,7 +31,7 @@ fn word_of(contents: u64) -> u32
 }
 
 // A word as F_floating or as a longword.
-fn shown(kind: u8, word: u32) -> Reading
+fn shown(kind: u32, word: u32) -> Reading
     requires { ⌜ kind < 2 ⌝ }
     ensures { λ r. ⌜ ShownAs kind word r ⌝ }
 {
@@ -47,7 +47,7 @@ pub fn reading(
     control: Control,
     register: Register,
     element: Element,
-    kind: u8,
+    kind: u32,
 ) -> Panel
     ensures { λ r. ⌜ Answered (stateOf (now (elements .entry)) control) (register .0) (element .0) kind r ⌝ }
 {

@@ -1,6 +1,7 @@
 // Whether a queue is accepted: 12, 8, then 3, then per position from 0: 1, 7, 2.
 use crate::Reply;
 use opcodes::ControlWord;
+use opcodes::Field;
 use opcodes::Instruction;
 use opcodes::Opcode;
 use opcodes::Work;
@@ -8,7 +9,6 @@ use opcodes::control_word;
 use opcodes::table;
 use state;
 use state::Control;
-use state::Register;
 ghost use mathlib.Core.Path.{_≡_};
 ghost use mathlib.Core.Bool.{true};
 ghost use Rattle.opcodes.specs.Opcodes.{opcodeOf};
@@ -33,9 +33,9 @@ fn other() -> Instruction
         moe: false,
         mtf: false,
         exc: false,
-        va: Register(0),
-        vb: Register(0),
-        vc: Register(0),
+        va: Field(0),
+        vb: Field(0),
+        vc: Field(0),
     }
 }
 

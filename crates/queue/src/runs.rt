@@ -51,7 +51,7 @@ fn enter(
         begun,
         instruction,
         scalars[p],
-        Element((x % 64) as u8),
+        Element((x % 64) as usize),
     )
 }
 

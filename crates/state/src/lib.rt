@@ -3,14 +3,15 @@ ghost use mathlib.Core.Path.{_≡_};
 ghost use Prim.Native.Nat.{_<_};
 ghost use Rattle.state.specs.State.{placeOf, lengthInRange, vaerInRange, vpsrInRange, inRange, enabled as enabledOf};
 
-// The number of a vector register, 0 to 15.
-pub struct Register(pub u8);
+// The number of a vector register, 0 to 15. It is as wide as an index, so that any number a caller names is tested and none is cut.
+pub struct Register(pub usize);
 
-// The number of an element, 0 to 63.
-pub struct Element(pub u8);
+// The number of an element, 0 to 63, as wide.
+pub struct Element(pub usize);
 
 // The control registers, in the order of the saved records. Each is 64 bits wide, so that a caller
-// can hand over any number, and one that is out of range is refused instead of cut.
+// can hand over any number, and one that is out of range is refused instead of cut. C has the same record.
+#[repr(C)]
 pub struct Control {
     pub vlr: u64,
     pub vmr: u64,
@@ -24,7 +25,7 @@ pub fn place(register: Register, element: Element) -> usize
     requires { ⌜ (register .0 < 16) × (element .0 < 64) ⌝ }
     ensures { λ r. ⌜ r ≡ placeOf (register .0) (element .0) ⌝ }
 {
-    register.0 as usize * 64 + element.0 as usize
+    register.0 * 64 + element.0
 }
 
 // VLR or VCR is one that a state may hold.

@@ -29,7 +29,7 @@ place-requires : tie.Need-place-requires
 place-requires c κs = (inside c .0, inside c .1)
 
 mul-word-of : tie.Need-mul-word-of
-mul-word-of c = search needs
+mul-word-of c = omega (arith, inside (c .before))
 
 element-copy-out-word-of : tie.Need-element-copy-out-word-of
 element-copy-out-word-of c = omega (arith, inside (c .before))

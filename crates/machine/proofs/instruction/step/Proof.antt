@@ -8,9 +8,6 @@ use Rattle.machine.proofs.Chosen.{taken, kept, iota-done}
 use Rattle.machine.proofs.instruction.step.Statement.{statement}
 use Rattle.machine.proofs.instruction.step.Tie as tie
 
-cast-i : tie.Need-cast-i
-cast-i c = search needs
-
 is-iota-requires : tie.Need-is-iota-requires
 is-iota-requires c κs = search needs
 
@@ -31,7 +28,7 @@ bit-requires c κs = search needs
 
 returns-2 : tie.Need-returns-2
 returns-2 c =
-    kept _ _ _ _ (c .before .before .before .before .before .before .pre .3) (c .before .before .operated .ensures) _ (sym (c .before .before .before .before .is-iota .ensures) ∙ c .before .before .before .if1 .left) (sym (c .before .bit .ensures) ∙ not-true _ (c .if2 .taken))
+    kept _ _ _ _ (c .before .before .before .before .before .pre .3) (c .before .before .operated .ensures) _ (sym (c .before .before .before .before .is-iota .ensures) ∙ c .before .before .before .if1 .left) (sym (c .before .bit .ensures) ∙ not-true _ (c .if2 .taken))
 
 one-requires : tie.Need-one-requires
 one-requires c κs = (search needs, search needs, search needs, search needs, sym (c .before .before .before .before .before .is-iota .ensures) ∙ c .before .before .before .before .if1 .left)
@@ -43,13 +40,12 @@ returns-3 : tie.Need-returns-3
 returns-3 c =
     ap (run _) (c .effected2 .ensures)
     ∙ c .before .one .ensures _ refl refl
-    ∙ taken _ _ _ _ (c .before .before .before .before .before .before .before .before .before .pre .3) (c .before .before .before .before .before .operated .ensures) _ (sym (c .before .before .before .before .before .before .before .is-iota .ensures) ∙ c .before .before .before .before .before .before .if1 .left) (sym (c .before .before .before .before .bit .ensures) ∙ not-false _ (c .before .before .before .if2 .left))
+    ∙ taken _ _ _ _ (c .before .before .before .before .before .before .before .before .pre .3) (c .before .before .before .before .before .operated .ensures) _ (sym (c .before .before .before .before .before .before .before .is-iota .ensures) ∙ c .before .before .before .before .before .before .if1 .left) (sym (c .before .before .before .before .bit .ensures) ∙ not-false _ (c .before .before .before .if2 .left))
 
 pub step-spec : {M : Type 1} → statement M
 step-spec =
     tie.close
     (tie.spec
-    cast-i
     is-iota-requires
     effect-requires
     effected-requires

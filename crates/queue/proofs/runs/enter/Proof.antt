@@ -16,9 +16,6 @@ mul-step c = search needs
 shared-slice-read-step : tie.Need-shared-slice-read-step
 shared-slice-read-step c = search needs
 
-cast-t17 : tie.Need-cast-t17
-cast-t17 c = search needs
-
 step-requires : tie.Need-step-requires
 step-requires c κs = let s = c .before .before .before .before in let b = s .pre .1 _ (s .pre .0 .2) in (b .va, b .vb, b .vc, s .pre .0 .0, search needs)
 
@@ -26,4 +23,4 @@ returns : tie.Need-returns
 returns c = acts _ _ _ _ _ (c .step .ensures)
 
 pub enter-spec : {M : Type 1} → statement M
-enter-spec = tie.close (tie.spec mul-instruction array-copy-out-instruction mul-step shared-slice-read-step cast-t17 step-requires returns)
+enter-spec = tie.close (tie.spec mul-instruction array-copy-out-instruction mul-step shared-slice-read-step step-requires returns)
