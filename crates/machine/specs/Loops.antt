@@ -84,7 +84,7 @@ oddFrom v i (suc n) = oddFrom v (suc i) n * 2 + v i % 2
 
 -- below n a set has the numbers whose v is odd; its bits from n on are left open
 abbrev pub OddBelow : (ℕ → ℕ) → ℕ → ℕ → Type 0
-OddBelow v n set = (i : ℕ) → i < n → bit set i ≡ eqb (v i % 2) 1
+OddBelow v n s = (i : ℕ) → i < n → bit s i ≡ eqb (v i % 2) 1
 
 -- ---- IOTA: the elements, and which is next
 pub record Written : Type 0 where

@@ -8,6 +8,7 @@ use crate::run;
 use numbers::bits;
 use opcodes::Instruction;
 use state::Element;
+use state::Register;
 ghost use mathlib.Core.Path.{_≡_};
 ghost use mathlib.Core.Bool.{true, false, not, _&&_};
 ghost use Prim.Native.Nat.{ℕ, _<_, _≤_};
@@ -19,11 +20,11 @@ ghost use Rattle.machine.specs.Instruction.{stepOf, wholeOf};
 ghost use Rattle.machine.specs.Loops.{matched as matchedOf, effected as effectedOf, doneFor};
 
 // The bit of a register in VAER.
-fn register_bit(register: u8) -> u64
-    requires { ⌜ register < 16 ⌝ }
-    ensures { λ r. ⌜ r ≡ registerBit false register ⌝ }
+fn register_bit(register: Register) -> u64
+    requires { ⌜ register .0 < 16 ⌝ }
+    ensures { λ r. ⌜ r ≡ registerBit false (register .0) ⌝ }
 {
-    1 << (16 + register)
+    1 << (16 + register.0)
 }
 
 // The mask bits that are MTF.
@@ -55,7 +56,7 @@ fn noted(instruction: Instruction, vmr: u64, vcr: u64, types: u64) -> Effect
     Effect {
         vmr,
         vcr,
-        notes: run::note(register_bit(instruction.vc.0), types),
+        notes: run::note(register_bit(Register(instruction.vc.0 as usize)), types),
     }
 }
 
@@ -99,12 +100,12 @@ fn one(
     elements: &mut [u64; 1024],
     instruction: Instruction,
     scalar: u64,
-    i: usize,
+    i: Element,
     vmr: u64,
     vcr: u64,
 ) -> Effect
-    requires { ⌜ (instruction .va .0 < 16) × (instruction .vb .0 < 16) × (instruction .vc .0 < 16) × (i < 64) × (isIota (kindOf (instruction .work)) ≡ false) ⌝ }
-    ensures { λ r. ⌜ ((p : Progress) → p .control .vmr ≡ vmr → p .control .vcr ≡ vcr → runOf (now (elements .exit)) (effectedOf r p) ≡ worked instruction scalar i (runOf (now (elements .entry)) p)) ⌝ }
+    requires { ⌜ (instruction .va .0 < 16) × (instruction .vb .0 < 16) × (instruction .vc .0 < 16) × (i .0 < 64) × (isIota (kindOf (instruction .work)) ≡ false) ⌝ }
+    ensures { λ r. ⌜ ((p : Progress) → p .control .vmr ≡ vmr → p .control .vcr ≡ vcr → runOf (now (elements .exit)) (effectedOf r p) ≡ worked instruction scalar (i .0) (runOf (now (elements .entry)) p)) ⌝ }
 {
     let work = instruction.work;
     if crate::is_compare(work) {
@@ -115,7 +116,7 @@ fn one(
         instruction,
         scalar,
         matched(vmr, instruction.mtf),
-        bits::with_bit(0, i, 1),
+        bits::with_bit(0, i.0, 1),
     );
     noted(instruction, vmr, vcr, types)
 }
@@ -168,15 +169,14 @@ pub fn step(
     let vlr = progress.control.vlr;
     let vmr = progress.control.vmr;
     let vcr = progress.control.vcr;
-    let i = element.0;
     let work = instruction.work;
     if crate::is_iota(work) {
         let done = effect(elements, instruction, scalar, 0, vlr, vmr, vcr);
         return effected(progress, done);
     }
-    if !bits::bit(operated(instruction, vlr, vmr), i) {
+    if !bits::bit(operated(instruction, vlr, vmr), element.0) {
         return progress;
     }
-    let done = one(elements, instruction, scalar, i, vmr, vcr);
+    let done = one(elements, instruction, scalar, element, vmr, vcr);
     effected(progress, done)
 }

@@ -2,6 +2,8 @@
 use crate::Effect;
 use numbers::bits;
 use opcodes::Instruction;
+use state::Element;
+use state::Register;
 ghost use mathlib.Core.Path.{_≡_};
 ghost use mathlib.Core.Bool.{true};
 ghost use Prim.Native.Nat.{ℕ, _*_, _+_, _%_, _^_, _<_, _≤_};
@@ -14,31 +16,37 @@ ghost use Rattle.machine.specs.Iota.{put};
 ghost use Rattle.machine.specs.Loops.{matched, wrote, iotaTurn, effected, doneFor};
 
 // i times stride mod 2^32.
-fn multiple(i: usize, stride: u32) -> u32
-    requires { ⌜ i < 64 ⌝ }
-    ensures { λ r. ⌜ r ≡ i * stride % 2 ^ 32 ⌝ }
+fn multiple(i: Element, stride: u32) -> u32
+    requires { ⌜ i .0 < 64 ⌝ }
+    ensures { λ r. ⌜ r ≡ i .0 * stride % 2 ^ 32 ⌝ }
 {
-    (i as u64 * stride as u64 % 4294967296) as u32
+    (i.0 as u64 * stride as u64 % 4294967296) as u32
 }
 
 // The next element of vc gets i's multiple.
-fn turn(elements: &mut [u64; 1024], stride: u32, vc: usize, i: usize, next: usize)
-    requires { ⌜ (vc < 16) × (i < 64) × (next < 64) ⌝ }
-    ensures { λ _. ⌜ now (elements .exit) ≡ put vc next (i * stride % 2 ^ 32) (now (elements .entry)) ⌝ }
+fn turn(elements: &mut [u64; 1024], stride: u32, vc: Register, i: Element, next: Element)
+    requires { ⌜ (vc .0 < 16) × (i .0 < 64) × (next .0 < 64) ⌝ }
+    ensures { λ _. ⌜ now (elements .exit) ≡ put (vc .0) (next .0) (i .0 * stride % 2 ^ 32) (now (elements .entry)) ⌝ }
 {
-    let to = vc * 64 + next;
+    let to = state::place(vc, next);
     elements[to] = numbers::halves::with_low(elements[to], multiple(i, stride));
 }
 
 // The walk over the ones of a set, rising; gives how many there were.
-fn walk(elements: &mut [u64; 1024], which: u64, stride: u32, vc: usize) -> usize
-    requires { ⌜ vc < 16 ⌝ }
-    ensures { λ r. ⌜ wrote (now (elements .exit)) r ≡ rising (ofOnes (iotaTurn stride vc) which) 64 (wrote (now (elements .entry)) 0) ⌝ }
+fn walk(elements: &mut [u64; 1024], which: u64, stride: u32, vc: Register) -> usize
+    requires { ⌜ vc .0 < 16 ⌝ }
+    ensures { λ r. ⌜ wrote (now (elements .exit)) r ≡ rising (ofOnes (iotaTurn stride (vc .0)) which) 64 (wrote (now (elements .entry)) 0) ⌝ }
 {
     let mut next: usize = 0;
     let mut left = which;
     while left != 0 {
-        turn(&mut *elements, stride, vc, bits::lowest(left), next);
+        turn(
+            &mut *elements,
+            stride,
+            vc,
+            Element(bits::lowest(left)),
+            Element(next),
+        );
         next += 1;
         left = bits::without_lowest(left);
     }
@@ -66,7 +74,7 @@ pub fn iota(
 {
     let which = bits::low_bits(mask, vlr);
     let low = (stride % 4294967296) as u32;
-    walk(elements, which, low, instruction.vc.0 as usize);
+    walk(elements, which, low, Register(instruction.vc.0 as usize));
     Effect {
         vmr,
         vcr: count(which),

@@ -7,6 +7,8 @@ use element;
 use element::Out;
 use numbers::bits;
 use opcodes::Instruction;
+use state::Element;
+use state::Register;
 ghost use mathlib.Core.Path.{_≡_};
 ghost use Prim.Native.Nat.{_<_, _≤_, _-_, _^_};
 ghost use Rattle.numbers.specs.Choice.{pick};
@@ -18,11 +20,11 @@ ghost use Rattle.machine.specs.Kind.{kindOf, isCompare};
 ghost use Rattle.machine.specs.Loops.{lanes, landed, laneWorked, laneRegister, laneStep, oneAt, shortAt, totalAt, productAt, convertAt, workAt};
 
 // Element i of vc receives a result; the types that it recorded join the others.
-fn land(elements: &mut [u64; 1024], types: u64, o: Out, vc: usize, i: usize) -> u64
-    requires { ⌜ (vc < 16) × (i < 64) ⌝ }
-    ensures { λ r. ⌜ lanes (now (elements .exit)) r ≡ landed vc i (lanes (now (elements .entry)) types) o ⌝ }
+fn land(elements: &mut [u64; 1024], types: u64, o: Out, vc: Register, i: Element) -> u64
+    requires { ⌜ (vc .0 < 16) × (i .0 < 64) ⌝ }
+    ensures { λ r. ⌜ lanes (now (elements .exit)) r ≡ landed (vc .0) (i .0) (lanes (now (elements .entry)) types) o ⌝ }
 {
-    elements[vc * 64 + i] = o.value;
+    elements[state::place(vc, i)] = o.value;
     types | o.types
 }
 
@@ -33,12 +35,12 @@ fn short(
     code: u8,
     matches: bool,
     a: u64,
-    vb: usize,
-    vc: usize,
-    i: usize,
+    vb: Register,
+    vc: Register,
+    i: Element,
 ) -> u64
-    requires { ⌜ (vb < 16) × (vc < 16) × (i < 64) ⌝ }
-    ensures { λ r. ⌜ lanes (now (elements .exit)) r ≡ laneWorked (oneAt code true matches) a vb vc i (lanes (now (elements .entry)) types) ⌝ }
+    requires { ⌜ (vb .0 < 16) × (vc .0 < 16) × (i .0 < 64) ⌝ }
+    ensures { λ r. ⌜ lanes (now (elements .exit)) r ≡ laneWorked (oneAt code true matches) a (vb .0) (vc .0) (i .0) (lanes (now (elements .entry)) types) ⌝ }
 {
     let b = operand::element_of(&*elements, vb, i);
     let c = operand::element_of(&*elements, vc, i);
@@ -66,20 +68,29 @@ fn every(
     mask: u64,
     scalar: bool,
     x: u64,
-    va: usize,
-    vb: usize,
-    vc: usize,
+    va: Register,
+    vb: Register,
+    vc: Register,
     n: usize,
 ) -> u64
-    requires { ⌜ (va < 16) × (vb < 16) × (vc < 16) × (n ≤ 64) ⌝ }
-    ensures { λ r. ⌜ lanes (now (elements .exit)) r ≡ rising (laneStep (shortAt code exc mask) scalar x va vb vc) n (lanes (now (elements .entry)) 0) ⌝ }
+    requires { ⌜ (va .0 < 16) × (vb .0 < 16) × (vc .0 < 16) × (n ≤ 64) ⌝ }
+    ensures { λ r. ⌜ lanes (now (elements .exit)) r ≡ rising (laneStep (shortAt code exc mask) scalar x (va .0) (vb .0) (vc .0)) n (lanes (now (elements .entry)) 0) ⌝ }
 {
     let mut types: u64 = 0;
     let mut left = mask;
     let mut i: usize = 0;
     while i < n {
-        let a = operand::first(&*elements, scalar, x, va, i);
-        types = short(&mut *elements, types, code, left % 2 == 1, a, vb, vc, i);
+        let a = operand::first(&*elements, scalar, x, va, Element(i));
+        types = short(
+            &mut *elements,
+            types,
+            code,
+            left % 2 == 1,
+            a,
+            vb,
+            vc,
+            Element(i),
+        );
         left = left / 2;
         i += 1;
     }
@@ -94,24 +105,24 @@ fn chosen(
     mask: u64,
     scalar: bool,
     x: u64,
-    va: usize,
-    vb: usize,
-    vc: usize,
+    va: Register,
+    vb: Register,
+    vc: Register,
     which: u64,
 ) -> u64
-    requires { ⌜ (va < 16) × (vb < 16) × (vc < 16) ⌝ }
-    ensures { λ r. ⌜ lanes (now (elements .exit)) r ≡ rising (ofOnes (laneStep (shortAt code exc mask) scalar x va vb vc) which) 64 (lanes (now (elements .entry)) 0) ⌝ }
+    requires { ⌜ (va .0 < 16) × (vb .0 < 16) × (vc .0 < 16) ⌝ }
+    ensures { λ r. ⌜ lanes (now (elements .exit)) r ≡ rising (ofOnes (laneStep (shortAt code exc mask) scalar x (va .0) (vb .0) (vc .0)) which) 64 (lanes (now (elements .entry)) 0) ⌝ }
 {
     let mut types: u64 = 0;
     let mut left = which;
     while left != 0 {
-        let i = bits::lowest(left);
+        let i = Element(bits::lowest(left));
         let a = operand::first(&*elements, scalar, x, va, i);
         types = short(
             &mut *elements,
             types,
             code,
-            (mask >> i) % 2 == 1,
+            (mask >> i.0) % 2 == 1,
             a,
             vb,
             vc,
@@ -129,17 +140,17 @@ fn scalar_totals(
     minus: bool,
     exc: bool,
     x: u64,
-    vb: usize,
-    vc: usize,
+    vb: Register,
+    vc: Register,
     which: u64,
 ) -> u64
-    requires { ⌜ (vb < 16) × (vc < 16) ⌝ }
-    ensures { λ r. ⌜ lanes (now (elements .exit)) r ≡ rising (ofOnes (laneWorked (totalAt minus exc) x vb vc) which) 64 (lanes (now (elements .entry)) 0) ⌝ }
+    requires { ⌜ (vb .0 < 16) × (vc .0 < 16) ⌝ }
+    ensures { λ r. ⌜ lanes (now (elements .exit)) r ≡ rising (ofOnes (laneWorked (totalAt minus exc) x (vb .0) (vc .0)) which) 64 (lanes (now (elements .entry)) 0) ⌝ }
 {
     let mut types: u64 = 0;
     let mut left = which;
     while left != 0 {
-        let i = bits::lowest(left);
+        let i = Element(bits::lowest(left));
         let b = operand::element_of(&*elements, vb, i);
         let c = operand::element_of(&*elements, vc, i);
         let o = if element::is_rare(x, b) {
@@ -158,18 +169,18 @@ fn register_totals(
     elements: &mut [u64; 1024],
     minus: bool,
     exc: bool,
-    va: usize,
-    vb: usize,
-    vc: usize,
+    va: Register,
+    vb: Register,
+    vc: Register,
     which: u64,
 ) -> u64
-    requires { ⌜ (va < 16) × (vb < 16) × (vc < 16) ⌝ }
-    ensures { λ r. ⌜ lanes (now (elements .exit)) r ≡ rising (ofOnes (laneRegister (totalAt minus exc) va vb vc) which) 64 (lanes (now (elements .entry)) 0) ⌝ }
+    requires { ⌜ (va .0 < 16) × (vb .0 < 16) × (vc .0 < 16) ⌝ }
+    ensures { λ r. ⌜ lanes (now (elements .exit)) r ≡ rising (ofOnes (laneRegister (totalAt minus exc) (va .0) (vb .0) (vc .0)) which) 64 (lanes (now (elements .entry)) 0) ⌝ }
 {
     let mut types: u64 = 0;
     let mut left = which;
     while left != 0 {
-        let i = bits::lowest(left);
+        let i = Element(bits::lowest(left));
         let a = operand::element_of(&*elements, va, i);
         let b = operand::element_of(&*elements, vb, i);
         let c = operand::element_of(&*elements, vc, i);
@@ -191,13 +202,13 @@ fn totals(
     exc: bool,
     scalar: bool,
     x: u64,
-    va: usize,
-    vb: usize,
-    vc: usize,
+    va: Register,
+    vb: Register,
+    vc: Register,
     which: u64,
 ) -> u64
-    requires { ⌜ (va < 16) × (vb < 16) × (vc < 16) ⌝ }
-    ensures { λ r. ⌜ lanes (now (elements .exit)) r ≡ rising (ofOnes (laneStep (totalAt minus exc) scalar x va vb vc) which) 64 (lanes (now (elements .entry)) 0) ⌝ }
+    requires { ⌜ (va .0 < 16) × (vb .0 < 16) × (vc .0 < 16) ⌝ }
+    ensures { λ r. ⌜ lanes (now (elements .exit)) r ≡ rising (ofOnes (laneStep (totalAt minus exc) scalar x (va .0) (vb .0) (vc .0)) which) 64 (lanes (now (elements .entry)) 0) ⌝ }
 {
     if scalar {
         return scalar_totals(elements, minus, exc, x, vb, vc, which);
@@ -211,12 +222,12 @@ fn product(
     types: u64,
     exc: bool,
     a: u64,
-    vb: usize,
-    vc: usize,
-    i: usize,
+    vb: Register,
+    vc: Register,
+    i: Element,
 ) -> u64
-    requires { ⌜ (vb < 16) × (vc < 16) × (i < 64) ⌝ }
-    ensures { λ r. ⌜ lanes (now (elements .exit)) r ≡ laneWorked (productAt exc) a vb vc i (lanes (now (elements .entry)) types) ⌝ }
+    requires { ⌜ (vb .0 < 16) × (vc .0 < 16) × (i .0 < 64) ⌝ }
+    ensures { λ r. ⌜ lanes (now (elements .exit)) r ≡ laneWorked (productAt exc) a (vb .0) (vc .0) (i .0) (lanes (now (elements .entry)) types) ⌝ }
 {
     let b = operand::element_of(&*elements, vb, i);
     let c = operand::element_of(&*elements, vc, i);
@@ -228,17 +239,17 @@ fn scalar_products(
     elements: &mut [u64; 1024],
     exc: bool,
     x: u64,
-    vb: usize,
-    vc: usize,
+    vb: Register,
+    vc: Register,
     which: u64,
 ) -> u64
-    requires { ⌜ (vb < 16) × (vc < 16) ⌝ }
-    ensures { λ r. ⌜ lanes (now (elements .exit)) r ≡ rising (ofOnes (laneWorked (productAt exc) x vb vc) which) 64 (lanes (now (elements .entry)) 0) ⌝ }
+    requires { ⌜ (vb .0 < 16) × (vc .0 < 16) ⌝ }
+    ensures { λ r. ⌜ lanes (now (elements .exit)) r ≡ rising (ofOnes (laneWorked (productAt exc) x (vb .0) (vc .0)) which) 64 (lanes (now (elements .entry)) 0) ⌝ }
 {
     let mut types: u64 = 0;
     let mut left = which;
     while left != 0 {
-        let i = bits::lowest(left);
+        let i = Element(bits::lowest(left));
         types = product(&mut *elements, types, exc, x, vb, vc, i);
         left = bits::without_lowest(left);
     }
@@ -249,18 +260,18 @@ fn scalar_products(
 fn register_products(
     elements: &mut [u64; 1024],
     exc: bool,
-    va: usize,
-    vb: usize,
-    vc: usize,
+    va: Register,
+    vb: Register,
+    vc: Register,
     which: u64,
 ) -> u64
-    requires { ⌜ (va < 16) × (vb < 16) × (vc < 16) ⌝ }
-    ensures { λ r. ⌜ lanes (now (elements .exit)) r ≡ rising (ofOnes (laneRegister (productAt exc) va vb vc) which) 64 (lanes (now (elements .entry)) 0) ⌝ }
+    requires { ⌜ (va .0 < 16) × (vb .0 < 16) × (vc .0 < 16) ⌝ }
+    ensures { λ r. ⌜ lanes (now (elements .exit)) r ≡ rising (ofOnes (laneRegister (productAt exc) (va .0) (vb .0) (vc .0)) which) 64 (lanes (now (elements .entry)) 0) ⌝ }
 {
     let mut types: u64 = 0;
     let mut left = which;
     while left != 0 {
-        let i = bits::lowest(left);
+        let i = Element(bits::lowest(left));
         let a = operand::element_of(&*elements, va, i);
         types = product(&mut *elements, types, exc, a, vb, vc, i);
         left = bits::without_lowest(left);
@@ -274,13 +285,13 @@ fn products(
     exc: bool,
     scalar: bool,
     x: u64,
-    va: usize,
-    vb: usize,
-    vc: usize,
+    va: Register,
+    vb: Register,
+    vc: Register,
     which: u64,
 ) -> u64
-    requires { ⌜ (va < 16) × (vb < 16) × (vc < 16) ⌝ }
-    ensures { λ r. ⌜ lanes (now (elements .exit)) r ≡ rising (ofOnes (laneStep (productAt exc) scalar x va vb vc) which) 64 (lanes (now (elements .entry)) 0) ⌝ }
+    requires { ⌜ (va .0 < 16) × (vb .0 < 16) × (vc .0 < 16) ⌝ }
+    ensures { λ r. ⌜ lanes (now (elements .exit)) r ≡ rising (ofOnes (laneStep (productAt exc) scalar x (va .0) (vb .0) (vc .0)) which) 64 (lanes (now (elements .entry)) 0) ⌝ }
 {
     if scalar {
         return scalar_products(elements, exc, x, vb, vc, which);
@@ -294,12 +305,12 @@ fn convert(
     types: u64,
     exc: bool,
     conversion: u64,
-    vb: usize,
-    vc: usize,
-    i: usize,
+    vb: Register,
+    vc: Register,
+    i: Element,
 ) -> u64
-    requires { ⌜ (vb < 16) × (vc < 16) × (i < 64) ⌝ }
-    ensures { λ r. ⌜ lanes (now (elements .exit)) r ≡ laneWorked (convertAt exc conversion) 0 vb vc i (lanes (now (elements .entry)) types) ⌝ }
+    requires { ⌜ (vb .0 < 16) × (vc .0 < 16) × (i .0 < 64) ⌝ }
+    ensures { λ r. ⌜ lanes (now (elements .exit)) r ≡ laneWorked (convertAt exc conversion) 0 (vb .0) (vc .0) (i .0) (lanes (now (elements .entry)) types) ⌝ }
 {
     let b = operand::element_of(&*elements, vb, i);
     let c = operand::element_of(&*elements, vc, i);
@@ -317,17 +328,17 @@ fn converts(
     elements: &mut [u64; 1024],
     exc: bool,
     conversion: u64,
-    vb: usize,
-    vc: usize,
+    vb: Register,
+    vc: Register,
     which: u64,
 ) -> u64
-    requires { ⌜ (vb < 16) × (vc < 16) ⌝ }
-    ensures { λ r. ⌜ lanes (now (elements .exit)) r ≡ rising (ofOnes (laneWorked (convertAt exc conversion) 0 vb vc) which) 64 (lanes (now (elements .entry)) 0) ⌝ }
+    requires { ⌜ (vb .0 < 16) × (vc .0 < 16) ⌝ }
+    ensures { λ r. ⌜ lanes (now (elements .exit)) r ≡ rising (ofOnes (laneWorked (convertAt exc conversion) 0 (vb .0) (vc .0)) which) 64 (lanes (now (elements .entry)) 0) ⌝ }
 {
     let mut types: u64 = 0;
     let mut left = which;
     while left != 0 {
-        let i = bits::lowest(left);
+        let i = Element(bits::lowest(left));
         types = convert(&mut *elements, types, exc, conversion, vb, vc, i);
         left = bits::without_lowest(left);
     }
@@ -339,12 +350,12 @@ fn conversions(
     elements: &mut [u64; 1024],
     exc: bool,
     conversion: u64,
-    vb: usize,
-    vc: usize,
+    vb: Register,
+    vc: Register,
     which: u64,
 ) -> u64
-    requires { ⌜ (vb < 16) × (vc < 16) ⌝ }
-    ensures { λ r. ⌜ lanes (now (elements .exit)) r ≡ rising (ofOnes (laneWorked (convertAt exc conversion) 0 vb vc) which) 64 (lanes (now (elements .entry)) 0) ⌝ }
+    requires { ⌜ (vb .0 < 16) × (vc .0 < 16) ⌝ }
+    ensures { λ r. ⌜ lanes (now (elements .exit)) r ≡ rising (ofOnes (laneWorked (convertAt exc conversion) 0 (vb .0) (vc .0)) which) 64 (lanes (now (elements .entry)) 0) ⌝ }
 {
     match conversion {
         5 => converts(elements, exc, 5, vb, vc, which),
@@ -370,9 +381,9 @@ pub fn some(
     let code = element::code(work);
     let exc = instruction.exc;
     let scalar = instruction.scalar;
-    let va = instruction.va.0 as usize;
-    let vb = instruction.vb.0 as usize;
-    let vc = instruction.vc.0 as usize;
+    let va = Register(instruction.va.0 as usize);
+    let vb = Register(instruction.vb.0 as usize);
+    let vc = Register(instruction.vc.0 as usize);
     match code {
         1 => chosen(elements, 1, exc, mask, scalar, x, va, vb, vc, which),
         2 => chosen(elements, 2, exc, mask, scalar, x, va, vb, vc, which),
@@ -411,9 +422,9 @@ fn all(
     let code = element::code(work);
     let exc = instruction.exc;
     let scalar = instruction.scalar;
-    let va = instruction.va.0 as usize;
-    let vb = instruction.vb.0 as usize;
-    let vc = instruction.vc.0 as usize;
+    let va = Register(instruction.va.0 as usize);
+    let vb = Register(instruction.vb.0 as usize);
+    let vc = Register(instruction.vc.0 as usize);
     match code {
         1 => every(elements, 1, exc, mask, scalar, x, va, vb, vc, n),
         2 => every(elements, 2, exc, mask, scalar, x, va, vb, vc, n),

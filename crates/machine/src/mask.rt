@@ -7,6 +7,8 @@ use element;
 use element::Out;
 use numbers::bits;
 use opcodes::Instruction;
+use state::Element;
+use state::Register;
 ghost use mathlib.Core.Path.{_≡_};
 ghost use mathlib.Core.Bool.{true, false, not, _||_};
 ghost use Prim.Native.Nat.{ℕ, _<_, _≤_, _/_, _%_};
@@ -26,12 +28,12 @@ fn one(
     relation: u64,
     scalar: bool,
     x: u64,
-    va: usize,
-    vb: usize,
-    i: usize,
+    va: Register,
+    vb: Register,
+    i: Element,
 ) -> Out
-    requires { ⌜ (va < 16) × (vb < 16) × (i < 64) ⌝ }
-    ensures { λ r. ⌜ r ≡ comparedAt code relation scalar x va vb (now (elements .entry)) i ⌝ }
+    requires { ⌜ (va .0 < 16) × (vb .0 < 16) × (i .0 < 64) ⌝ }
+    ensures { λ r. ⌜ r ≡ comparedAt code relation scalar x (va .0) (vb .0) (now (elements .entry)) (i .0) ⌝ }
 {
     element::compared(
         code,
@@ -48,20 +50,20 @@ fn every(
     relation: u64,
     scalar: bool,
     x: u64,
-    va: usize,
-    vb: usize,
+    va: Register,
+    vb: Register,
     n: usize,
 ) -> Found
-    requires { ⌜ (va < 16) × (vb < 16) × (n ≤ 64) ⌝ }
-    ensures found { λ r. ⌜ r .found ≡ oddFrom (λ i. comparedAt code relation scalar x va vb (now (elements .entry)) i .value) 0 n ⌝ }
-    ensures refused { λ r. ⌜ r .refused ≡ oddFrom (λ i. comparedAt code relation scalar x va vb (now (elements .entry)) i .types / 4) 0 n ⌝ }
+    requires { ⌜ (va .0 < 16) × (vb .0 < 16) × (n ≤ 64) ⌝ }
+    ensures found { λ r. ⌜ r .found ≡ oddFrom (λ i. comparedAt code relation scalar x (va .0) (vb .0) (now (elements .entry)) i .value) 0 n ⌝ }
+    ensures refused { λ r. ⌜ r .refused ≡ oddFrom (λ i. comparedAt code relation scalar x (va .0) (vb .0) (now (elements .entry)) i .types / 4) 0 n ⌝ }
 {
     let mut found: u64 = 0;
     let mut refused: u64 = 0;
     let mut i = n;
     while 0 < i {
         i -= 1;
-        let o = one(elements, code, relation, scalar, x, va, vb, i);
+        let o = one(elements, code, relation, scalar, x, va, vb, Element(i));
         found = found * 2 + o.value % 2;
         refused = refused * 2 + o.types / 4 % 2;
     }
@@ -73,13 +75,13 @@ fn with_scalar(
     elements: &[u64; 1024],
     relation: u64,
     x: u64,
-    va: usize,
-    vb: usize,
+    va: Register,
+    vb: Register,
     n: usize,
 ) -> Found
-    requires { ⌜ (va < 16) × (vb < 16) × (n ≤ 64) ⌝ }
-    ensures found { λ r. ⌜ r .found ≡ oddFrom (λ i. comparedAt 4 relation true x va vb (now (elements .entry)) i .value) 0 n ⌝ }
-    ensures refused { λ r. ⌜ r .refused ≡ oddFrom (λ i. comparedAt 4 relation true x va vb (now (elements .entry)) i .types / 4) 0 n ⌝ }
+    requires { ⌜ (va .0 < 16) × (vb .0 < 16) × (n ≤ 64) ⌝ }
+    ensures found { λ r. ⌜ r .found ≡ oddFrom (λ i. comparedAt 4 relation true x (va .0) (vb .0) (now (elements .entry)) i .value) 0 n ⌝ }
+    ensures refused { λ r. ⌜ r .refused ≡ oddFrom (λ i. comparedAt 4 relation true x (va .0) (vb .0) (now (elements .entry)) i .types / 4) 0 n ⌝ }
 {
     match relation {
         0 => every(elements, 4, 0, true, x, va, vb, n),
@@ -97,13 +99,13 @@ fn of_registers(
     elements: &[u64; 1024],
     relation: u64,
     x: u64,
-    va: usize,
-    vb: usize,
+    va: Register,
+    vb: Register,
     n: usize,
 ) -> Found
-    requires { ⌜ (va < 16) × (vb < 16) × (n ≤ 64) ⌝ }
-    ensures found { λ r. ⌜ r .found ≡ oddFrom (λ i. comparedAt 4 relation false x va vb (now (elements .entry)) i .value) 0 n ⌝ }
-    ensures refused { λ r. ⌜ r .refused ≡ oddFrom (λ i. comparedAt 4 relation false x va vb (now (elements .entry)) i .types / 4) 0 n ⌝ }
+    requires { ⌜ (va .0 < 16) × (vb .0 < 16) × (n ≤ 64) ⌝ }
+    ensures found { λ r. ⌜ r .found ≡ oddFrom (λ i. comparedAt 4 relation false x (va .0) (vb .0) (now (elements .entry)) i .value) 0 n ⌝ }
+    ensures refused { λ r. ⌜ r .refused ≡ oddFrom (λ i. comparedAt 4 relation false x (va .0) (vb .0) (now (elements .entry)) i .types / 4) 0 n ⌝ }
 {
     match relation {
         0 => every(elements, 4, 0, false, x, va, vb, n),
@@ -122,13 +124,13 @@ fn longwords(
     relation: u64,
     scalar: bool,
     x: u64,
-    va: usize,
-    vb: usize,
+    va: Register,
+    vb: Register,
     n: usize,
 ) -> Found
-    requires { ⌜ (va < 16) × (vb < 16) × (n ≤ 64) ⌝ }
-    ensures found { λ r. ⌜ r .found ≡ oddFrom (λ i. comparedAt 4 relation scalar x va vb (now (elements .entry)) i .value) 0 n ⌝ }
-    ensures refused { λ r. ⌜ r .refused ≡ oddFrom (λ i. comparedAt 4 relation scalar x va vb (now (elements .entry)) i .types / 4) 0 n ⌝ }
+    requires { ⌜ (va .0 < 16) × (vb .0 < 16) × (n ≤ 64) ⌝ }
+    ensures found { λ r. ⌜ r .found ≡ oddFrom (λ i. comparedAt 4 relation scalar x (va .0) (vb .0) (now (elements .entry)) i .value) 0 n ⌝ }
+    ensures refused { λ r. ⌜ r .refused ≡ oddFrom (λ i. comparedAt 4 relation scalar x (va .0) (vb .0) (now (elements .entry)) i .types / 4) 0 n ⌝ }
 {
     if scalar {
         return with_scalar(elements, relation, x, va, vb, n);
@@ -160,13 +162,13 @@ fn either(
     relation: u64,
     scalar: bool,
     x: u64,
-    va: usize,
-    vb: usize,
+    va: Register,
+    vb: Register,
     n: usize,
 ) -> Found
-    requires { ⌜ (va < 16) × (vb < 16) × (n ≤ 64) ⌝ }
-    ensures found { λ r. ⌜ OddBelow (λ i. comparedAt code relation scalar x va vb (now (elements .entry)) i .value) n (r .found) ⌝ }
-    ensures refused { λ r. ⌜ OddBelow (λ i. comparedAt code relation scalar x va vb (now (elements .entry)) i .types / 4) n (r .refused) ⌝ }
+    requires { ⌜ (va .0 < 16) × (vb .0 < 16) × (n ≤ 64) ⌝ }
+    ensures found { λ r. ⌜ OddBelow (λ i. comparedAt code relation scalar x (va .0) (vb .0) (now (elements .entry)) i .value) n (r .found) ⌝ }
+    ensures refused { λ r. ⌜ OddBelow (λ i. comparedAt code relation scalar x (va .0) (vb .0) (now (elements .entry)) i .types / 4) n (r .refused) ⌝ }
 {
     match code {
         4 => longwords(elements, relation, scalar, x, va, vb, n),
@@ -198,8 +200,8 @@ pub fn over(
         instruction.vc.0 as u64 % 8,
         instruction.scalar,
         x,
-        instruction.va.0 as usize,
-        instruction.vb.0 as usize,
+        Register(instruction.va.0 as usize),
+        Register(instruction.vb.0 as usize),
         n,
     );
     let refused = m.refused & which;
@@ -215,12 +217,12 @@ pub fn at(
     elements: &[u64; 1024],
     instruction: Instruction,
     x: u64,
-    i: usize,
+    i: Element,
     vmr: u64,
     vcr: u64,
 ) -> Effect
-    requires { ⌜ (instruction .va .0 < 16) × (instruction .vb .0 < 16) × (i < 64) × (isCompare (kindOf (instruction .work)) ≡ true) ⌝ }
-    ensures { λ r. ⌜ ((p : Progress) → p .control .vmr ≡ vmr → p .control .vcr ≡ vcr → runOf (now (elements .entry)) (effected r p) ≡ worked instruction x i (runOf (now (elements .entry)) p)) ⌝ }
+    requires { ⌜ (instruction .va .0 < 16) × (instruction .vb .0 < 16) × (i .0 < 64) × (isCompare (kindOf (instruction .work)) ≡ true) ⌝ }
+    ensures { λ r. ⌜ ((p : Progress) → p .control .vmr ≡ vmr → p .control .vcr ≡ vcr → runOf (now (elements .entry)) (effected r p) ≡ worked instruction x (i .0) (runOf (now (elements .entry)) p)) ⌝ }
 {
     let work = instruction.work;
     let o = one(
@@ -229,12 +231,12 @@ pub fn at(
         instruction.vc.0 as u64 % 8,
         instruction.scalar,
         x,
-        instruction.va.0 as usize,
-        instruction.vb.0 as usize,
+        Register(instruction.va.0 as usize),
+        Register(instruction.vb.0 as usize),
         i,
     );
     Effect {
-        vmr: bits::with_bit(vmr, i, o.value % 2),
+        vmr: bits::with_bit(vmr, i.0, o.value % 2),
         vcr,
         notes: o.types,
     }

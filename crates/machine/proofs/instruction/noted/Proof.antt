@@ -2,6 +2,9 @@ use borrow.Author.Needs.{needs}
 use Rattle.machine.proofs.instruction.noted.Statement.{statement}
 use Rattle.machine.proofs.instruction.noted.Tie as tie
 
+cast-t7 : tie.Need-cast-t7
+cast-t7 c = search needs
+
 register-bit-requires : tie.Need-register-bit-requires
 register-bit-requires c κs = search needs
 
@@ -12,4 +15,4 @@ returns : tie.Need-returns
 returns c = rw (c .note .ensures, c .before .register-bit .ensures)
 
 pub noted-spec : {M : Type 1} → statement M
-noted-spec = tie.close (tie.spec register-bit-requires note-requires returns)
+noted-spec = tie.close (tie.spec cast-t7 register-bit-requires note-requires returns)

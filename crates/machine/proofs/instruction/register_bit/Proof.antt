@@ -8,14 +8,11 @@ use Rattle.machine.proofs.instruction.register_bit.Tie as tie
 add-result : tie.Need-add-result
 add-result c = search needs
 
-cast-result : tie.Need-cast-result
-cast-result c = search needs
-
 shl-result : tie.Need-shl-result
 shl-result c = search needs
 
 returns : tie.Need-returns
-returns c = one-shifted (16 + c .args .register) 64 (omega arith)
+returns c = one-shifted (16 + c .before .args .register .0) 64 (omega arith)
 
 pub register-bit-spec : {M : Type 1} → statement M
-register-bit-spec = tie.close (tie.spec add-result cast-result shl-result returns)
+register-bit-spec = tie.close (tie.spec add-result shl-result returns)

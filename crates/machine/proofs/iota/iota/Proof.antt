@@ -11,8 +11,8 @@ low-bits-requires c κs = search needs
 cast-low : tie.Need-cast-low
 cast-low c = search needs
 
-cast-walk : tie.Need-cast-walk
-cast-walk c = search needs
+cast-t12 : tie.Need-cast-t12
+cast-t12 c = search needs
 
 walk-requires : tie.Need-walk-requires
 walk-requires c κs = search needs
@@ -26,4 +26,4 @@ returns c = λ which p e f.
 
 pub iota-spec : {M : Type 1} → statement M
 iota-spec =
-    tie.close (tie.spec low-bits-requires cast-low cast-walk walk-requires count-requires returns)
+    tie.close (tie.spec low-bits-requires cast-low cast-t12 walk-requires count-requires returns)

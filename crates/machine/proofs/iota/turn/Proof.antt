@@ -2,11 +2,8 @@ use borrow.Author.Needs.{needs}
 use Rattle.machine.proofs.iota.turn.Statement.{statement}
 use Rattle.machine.proofs.iota.turn.Tie as tie
 
-mul-to : tie.Need-mul-to
-mul-to c = search needs
-
-add-to : tie.Need-add-to
-add-to c = search needs
+place-requires : tie.Need-place-requires
+place-requires c κs = search needs
 
 mul-with-low : tie.Need-mul-with-low
 mul-with-low c = search needs
@@ -27,14 +24,13 @@ element-write-elements : tie.Need-element-write-elements
 element-write-elements c = search needs
 
 returns : tie.Need-returns
-returns c = rw (c .with-low .ensures, c .before .multiple .ensures)
+returns c = rw (c .with-low .ensures, c .before .multiple .ensures, c .before .before .before .place .ensures)
 
 pub turn-spec : {M : Type 1} → statement M
 turn-spec =
     tie.close
     (tie.spec
-    mul-to
-    add-to
+    place-requires
     mul-with-low
     element-copy-out-with-low
     multiple-requires

@@ -5,7 +5,7 @@ use Rattle.machine.proofs.iota.walk.Statement.{statement}
 use Rattle.machine.proofs.iota.walk.Tie as tie
 
 abbrev Inv-loop : tie.InvT-loop
-Inv-loop elements₀ which stride vc next₀ left₀ elements next left = Going stride vc which elements₀ left elements next
+Inv-loop elements₀ which stride vc next₀ left₀ elements next left = Going stride (vc .0) which elements₀ left elements next
 
 abbrev μ-loop : tie.MeasureT-loop
 μ-loop elements₀ which stride vc next₀ left₀ elements next left = left

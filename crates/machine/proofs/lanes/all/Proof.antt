@@ -9,14 +9,14 @@ use Rattle.machine.proofs.lanes.all.Tie as tie
 code-requires : tie.Need-code-requires
 code-requires c κs = search needs
 
-cast-va : tie.Need-cast-va
-cast-va c = search needs
+cast-t14 : tie.Need-cast-t14
+cast-t14 c = search needs
 
-cast-vb : tie.Need-cast-vb
-cast-vb c = search needs
+cast-t14-2 : tie.Need-cast-t14-2
+cast-t14-2 c = search needs
 
-cast-vc : tie.Need-cast-vc
-cast-vc c = search needs
+cast-t14-3 : tie.Need-cast-t14-3
+cast-t14-3 c = search needs
 
 every-requires : tie.Need-every-requires
 every-requires c κs = search needs
@@ -92,9 +92,9 @@ all-spec =
     tie.close
     (tie.spec
     code-requires
-    cast-va
-    cast-vb
-    cast-vc
+    cast-t14
+    cast-t14-2
+    cast-t14-3
     every-requires
     every-requires-2
     every-requires-3

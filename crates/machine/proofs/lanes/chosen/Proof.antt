@@ -10,7 +10,7 @@ use Rattle.machine.proofs.lanes.chosen.Statement.{statement}
 use Rattle.machine.proofs.lanes.chosen.Tie as tie
 
 abbrev Inv-loop : tie.InvT-loop
-Inv-loop elements₀ code exc mask scalar x va vb vc which types₀ left₀ elements types left = Walk (laneStep (shortAt code true mask) scalar x va vb vc) which 64 (lanes elements₀ 0) left (lanes elements types)
+Inv-loop elements₀ code exc mask scalar x va vb vc which types₀ left₀ elements types left = Walk (laneStep (shortAt code true mask) scalar x (va .0) (vb .0) (vc .0)) which 64 (lanes elements₀ 0) left (lanes elements types)
 
 abbrev μ-loop : tie.MeasureT-loop
 μ-loop elements₀ code exc mask scalar x va vb vc which types₀ left₀ elements types left = left
@@ -45,7 +45,7 @@ gated-requires c κs = search needs
 returns : tie.Need-returns Inv-loop μ-loop
 returns c =
     let at = c .before .before in let a = at .before .args in
-    gated-set (a .code) (a .mask) (a .scalar) (a .x) (a .va) (a .vb) (a .vc) (a .exc) (a .elements .now) _ _ _ (c .gated .ensures) (a .which) (ends-walk _ _ _ _ _ _ (at .loop .inv) (c .before .loop-test .left))
+    gated-set (a .code) (a .mask) (a .scalar) (a .x) (a .va .0) (a .vb .0) (a .vc .0) (a .exc) (a .elements .now) _ _ _ (c .gated .ensures) (a .which) (ends-walk _ _ _ _ _ _ (at .loop .inv) (c .before .loop-test .left))
 
 pub chosen-spec : {M : Type 1} → statement M
 chosen-spec =

@@ -11,7 +11,7 @@ use Rattle.machine.proofs.lanes.every.Statement.{statement}
 use Rattle.machine.proofs.lanes.every.Tie as tie
 
 abbrev Inv-loop : tie.InvT-loop
-Inv-loop elements₀ code exc mask scalar x va vb vc n types₀ left₀ i₀ elements types left i = (i ≤ n) × (left ≡ mask / 2 ^ i) × (lanes elements types ≡ rising (laneStep (shortAt code true mask) scalar x va vb vc) i (lanes elements₀ 0))
+Inv-loop elements₀ code exc mask scalar x va vb vc n types₀ left₀ i₀ elements types left i = (i ≤ n) × (left ≡ mask / 2 ^ i) × (lanes elements types ≡ rising (laneStep (shortAt code true mask) scalar x (va .0) (vb .0) (vc .0)) i (lanes elements₀ 0))
 
 abbrev μ-loop : tie.MeasureT-loop
 μ-loop elements₀ code exc mask scalar x va vb vc n types₀ left₀ i₀ elements types left i = n - i
@@ -45,7 +45,7 @@ gated-requires c κs = search needs
 returns : tie.Need-returns Inv-loop μ-loop
 returns c =
     let at = c .before .before in let a = at .before .args in
-    gated-all (a .code) (a .mask) (a .scalar) (a .x) (a .va) (a .vb) (a .vc) (a .exc) (a .elements .now) _ _ _ (c .gated .ensures) (a .n) (ends _ _ _ _ _ (at .loop .inv .0) (c .before .loop-test .left) (at .loop .inv .2))
+    gated-all (a .code) (a .mask) (a .scalar) (a .x) (a .va .0) (a .vb .0) (a .vc .0) (a .exc) (a .elements .now) _ _ _ (c .gated .ensures) (a .n) (ends _ _ _ _ _ (at .loop .inv .0) (c .before .loop-test .left) (at .loop .inv .2))
 
 pub every-spec : {M : Type 1} → statement M
 every-spec =

@@ -9,7 +9,7 @@ use Rattle.machine.proofs.lanes.register_totals.Statement.{statement}
 use Rattle.machine.proofs.lanes.register_totals.Tie as tie
 
 abbrev Inv-loop : tie.InvT-loop
-Inv-loop elements₀ minus exc va vb vc which types₀ left₀ elements types left = Walk (laneRegister (totalAt minus exc) va vb vc) which 64 (lanes elements₀ 0) left (lanes elements types)
+Inv-loop elements₀ minus exc va vb vc which types₀ left₀ elements types left = Walk (laneRegister (totalAt minus exc) (va .0) (vb .0) (vc .0)) which 64 (lanes elements₀ 0) left (lanes elements types)
 
 abbrev μ-loop : tie.MeasureT-loop
 μ-loop elements₀ minus exc va vb vc which types₀ left₀ elements types left = left

@@ -6,7 +6,7 @@ use Rattle.machine.proofs.lanes.scalar_products.Statement.{statement}
 use Rattle.machine.proofs.lanes.scalar_products.Tie as tie
 
 abbrev Inv-loop : tie.InvT-loop
-Inv-loop elements₀ exc x vb vc which types₀ left₀ elements types left = Walk (laneWorked (productAt exc) x vb vc) which 64 (lanes elements₀ 0) left (lanes elements types)
+Inv-loop elements₀ exc x vb vc which types₀ left₀ elements types left = Walk (laneWorked (productAt exc) x (vb .0) (vc .0)) which 64 (lanes elements₀ 0) left (lanes elements types)
 
 abbrev μ-loop : tie.MeasureT-loop
 μ-loop elements₀ exc x vb vc which types₀ left₀ elements types left = left

@@ -10,14 +10,14 @@ use Rattle.machine.proofs.lanes.some.Tie as tie
 code-requires : tie.Need-code-requires
 code-requires c κs = search needs
 
-cast-va : tie.Need-cast-va
-cast-va c = search needs
+cast-t14 : tie.Need-cast-t14
+cast-t14 c = search needs
 
-cast-vb : tie.Need-cast-vb
-cast-vb c = search needs
+cast-t14-2 : tie.Need-cast-t14-2
+cast-t14-2 c = search needs
 
-cast-vc : tie.Need-cast-vc
-cast-vc c = search needs
+cast-t14-3 : tie.Need-cast-t14-3
+cast-t14-3 c = search needs
 
 chosen-requires : tie.Need-chosen-requires
 chosen-requires c κs = search needs
@@ -124,9 +124,9 @@ some-spec =
     tie.close
     (tie.spec
     code-requires
-    cast-va
-    cast-vb
-    cast-vc
+    cast-t14
+    cast-t14-2
+    cast-t14-3
     chosen-requires
     chosen-requires-2
     chosen-requires-3

@@ -13,11 +13,11 @@ code-requires c κs = search needs
 cast-one : tie.Need-cast-one
 cast-one c = search needs
 
-cast-one-2 : tie.Need-cast-one-2
-cast-one-2 c = search needs
+cast-t12 : tie.Need-cast-t12
+cast-t12 c = search needs
 
-cast-one-3 : tie.Need-cast-one-3
-cast-one-3 c = search needs
+cast-t14 : tie.Need-cast-t14
+cast-t14 c = search needs
 
 one-requires : tie.Need-one-requires
 one-requires c κs = search needs
@@ -28,12 +28,12 @@ with-bit-requires c κs = search needs
 returns : tie.Need-returns
 returns c = λ p e f.
     let k = c .before .before .before .before .before .before in let s = k .before in let a = s .args in
-    compared-one (a .instruction) (a .x) 0 _ p (s .pre .3) _ (a .i)
-    (rw (e, ← (k .code .ensures)) (c .with-bit .ensures ∙ ap (λ (o : Out). withBit (a .vmr) (a .i) (o .value % 2)) (c .before .before .one .ensures)))
+    compared-one (a .instruction) (a .x) 0 _ p (s .pre .3) _ (a .i .0)
+    (rw (e, ← (k .code .ensures)) (c .with-bit .ensures ∙ ap (λ (o : Out). withBit (a .vmr) (a .i .0) (o .value % 2)) (c .before .before .one .ensures)))
     (sym f)
     (rw (← (k .code .ensures)) (ap (λ (o : Out). o .types) (c .before .before .one .ensures)))
 
 pub at-spec : {M : Type 1} → statement M
 at-spec =
     tie.close
-    (tie.spec code-requires cast-one cast-one-2 cast-one-3 one-requires with-bit-requires returns)
+    (tie.spec code-requires cast-one cast-t12 cast-t14 one-requires with-bit-requires returns)

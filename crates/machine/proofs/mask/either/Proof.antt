@@ -18,8 +18,8 @@ returns c = rw (c .before .match .keys1) (odd-below _ _ _ (c .longwords .ensures
 returns-2 : tie.Need-returns-2
 returns-2 c =
     let e = c .before .every .ensures in let a = c .before .before .before .args in let other = c .before .before .match .rest .1 in (
-      opposite-found (a .code) (a .relation) (a .scalar) (a .x) (a .va) (a .vb) (a .elements .now) other (a .n) _ _ _ (e .0) (e .1) (search needs) (c .opposed .ensures .0),
-      rw (c .opposed .ensures .1) (opposite-refused (a .code) (a .relation) (a .scalar) (a .x) (a .va) (a .vb) (a .elements .now) other (a .n) _ (e .1)),
+      opposite-found (a .code) (a .relation) (a .scalar) (a .x) (a .va .0) (a .vb .0) (a .elements .now) other (a .n) _ _ _ (e .0) (e .1) (search needs) (c .opposed .ensures .0),
+      rw (c .opposed .ensures .1) (opposite-refused (a .code) (a .relation) (a .scalar) (a .x) (a .va .0) (a .vb .0) (a .elements .now) other (a .n) _ (e .1)),
     )
 
 pub either-spec : {M : Type 1} → statement M

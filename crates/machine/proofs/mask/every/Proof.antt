@@ -8,7 +8,7 @@ use Rattle.machine.proofs.mask.every.Statement.{statement}
 use Rattle.machine.proofs.mask.every.Tie as tie
 
 abbrev Inv-loop : tie.InvT-loop
-Inv-loop elements code relation scalar x va vb n found₀ refused₀ i₀ found refused i = (i ≤ n) × (found ≡ oddFrom (λ k. comparedAt code relation scalar x va vb elements k .value) i (n - i)) × (refused ≡ oddFrom (λ k. comparedAt code relation scalar x va vb elements k .types / 4) i (n - i))
+Inv-loop elements code relation scalar x va vb n found₀ refused₀ i₀ found refused i = (i ≤ n) × (found ≡ oddFrom (λ k. comparedAt code relation scalar x (va .0) (vb .0) elements k .value) i (n - i)) × (refused ≡ oddFrom (λ k. comparedAt code relation scalar x (va .0) (vb .0) elements k .types / 4) i (n - i))
 
 abbrev μ-loop : tie.MeasureT-loop
 μ-loop elements code relation scalar x va vb n found₀ refused₀ i₀ found refused i = i

@@ -11,11 +11,11 @@ code-requires c κs = search needs
 cast-either : tie.Need-cast-either
 cast-either c = search needs
 
-cast-either-2 : tie.Need-cast-either-2
-cast-either-2 c = search needs
+cast-t20 : tie.Need-cast-t20
+cast-t20 c = search needs
 
-cast-either-3 : tie.Need-cast-either-3
-cast-either-3 c = search needs
+cast-t23 : tie.Need-cast-t23
+cast-t23 c = search needs
 
 either-requires : tie.Need-either-requires
 either-requires c κs = search needs
@@ -47,8 +47,8 @@ over-spec =
     (tie.spec
     code-requires
     cast-either
-    cast-either-2
-    cast-either-3
+    cast-t20
+    cast-t23
     either-requires
     replaced-requires
     returns
