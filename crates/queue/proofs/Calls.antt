@@ -16,15 +16,15 @@ use Rattle.machine.specs.Run.{run, progress, ended, finished}
 use Rattle.queue.specs.declared.Reply.{Reply}
 use Rattle.queue.specs.Queue.{Queue, size, wellFormed, fine, positions, acceptance, straight, instructionAt}
 use Rattle.queue.specs.Reply.{replyAnswer}
-use Rattle.queue.specs.Run.{outcome, ranThrough, queueRun, verdictOf, byVerdict, orderedRun}
+use Rattle.queue.specs.Run.{outcome, ranThrough, queueRun, verdictOf, byVerdict, ranBy, walkedRun}
 use Rattle.queue.specs.Order.{Mem, Proper, run as walkOf}
 use Rattle.queue.specs.Touch.{position, stepsOf, mustPrecede, act}
-use Rattle.queue.specs.Tables.{Below, decodedAt, actBy, throughBy, EndsAlike, standing}
+use Rattle.queue.specs.Tables.{Below, decodedAt, actBy, throughBy, standing}
 use Rattle.queue.specs.declared.Verdict.{Verdict}
 use Rattle.queue.specs.declared.Verdict.the-variants as verdict
 use Rattle.opcodes.specs.declared.Instruction.{Instruction}
 use Rattle.queue.proofs.Meaning.{place}
-use Rattle.queue.proofs.Claim.{permitted-proper, permitted-straight}
+use Rattle.queue.proofs.Claim.{permitted-proper}
 use Rattle.queue.proofs.Steps.{step-of, step-position}
 use Rattle.queue.proofs.Through.{at-below, same-through}
 use Rattle.queue.proofs.RunLoop.{run-same, same-acts}
@@ -99,19 +99,19 @@ module _ (q : Queue) (l : List ℕ) (c : Control) (r : Reply) (asked : replyAnsw
           ∙ sym (ap (λ (t : Bool). pick t (outcome (done 0) (ranThrough q (state l c))) (outcome (acceptance c q) (state l c))) (sym (ap fine asked) ∙ f))
 
   -- ---- by a list
-  pub order-refused : fine (replyAnswer r) ≡ false → (list : List ℕ) → outcome (replyAnswer r) (state l c) ≡ orderedRun q list (state l c)
-  unfolding orderedRun
+  pub order-refused : fine (replyAnswer r) ≡ false → (list : List ℕ) → outcome (replyAnswer r) (state l c) ≡ walkedRun q list (state l c)
+  unfolding walkedRun
   order-refused f list =
       ap (λ (a : Answer). outcome a (state l c)) asked
-      ∙ sym (ap (λ (t : Bool). pick t (byVerdict (state l c) (ranThrough q (state l c)) (verdictOf q (c .vlr) list)) (outcome (acceptance c q) (state l c))) (sym (ap fine asked) ∙ f))
+      ∙ sym (ap (λ (t : Bool). pick t (byVerdict (state l c) (ranBy q list (state l c)) (verdictOf q (c .vlr) list)) (outcome (acceptance c q) (state l c))) (sym (ap fine asked) ∙ f))
 
   module _ (f : fine (replyAnswer r) ≡ true) (list : List ℕ) where
-    ordered : byVerdict (state l c) (ranThrough q (state l c)) (verdictOf q (c .vlr) list) ≡ orderedRun q list (state l c)
-    unfolding orderedRun
-    ordered = sym (ap (λ (t : Bool). pick t (byVerdict (state l c) (ranThrough q (state l c)) (verdictOf q (c .vlr) list)) (outcome (acceptance c q) (state l c))) (sym (ap fine asked) ∙ f))
+    walked : byVerdict (state l c) (ranBy q list (state l c)) (verdictOf q (c .vlr) list) ≡ walkedRun q list (state l c)
+    unfolding walkedRun
+    walked = sym (ap (λ (t : Bool). pick t (byVerdict (state l c) (ranBy q list (state l c)) (verdictOf q (c .vlr) list)) (outcome (acceptance c q) (state l c))) (sym (ap fine asked) ∙ f))
 
-    pub order-stopped : (v : Verdict) (place : ℕ) → v ≡ verdictOf q (c .vlr) list → v ≡ verdict.Refused place → outcome (orderRefused place) (state l c) ≡ orderedRun q list (state l c)
-    order-stopped v place e g = ap (byVerdict (state l c) (ranThrough q (state l c))) (sym g ∙ e) ∙ ordered
+    pub order-stopped : (v : Verdict) (place : ℕ) → v ≡ verdictOf q (c .vlr) list → v ≡ verdict.Refused place → outcome (orderRefused place) (state l c) ≡ walkedRun q list (state l c)
+    order-stopped v place e g = ap (byVerdict (state l c) (ranBy q list (state l c))) (sym g ∙ e) ∙ walked
 
     module _ (program : List Instruction) (same : (k : ℕ) → k < size q → decodedAt program k ≡ instructionAt q k) (v : Verdict) (e : v ≡ verdictOf q (c .vlr) list) (permitted : v ≡ verdict.Permitted) where
       allowed : verdictOf q (c .vlr) list ≡ verdict.Permitted
@@ -126,19 +126,21 @@ module _ (q : Queue) (l : List ℕ) (c : Control) (r : Reply) (asked : replyAnsw
       entry-of : (x : ℕ) → Mem x list → position x < size q
       entry-of x m = let w = place x list (length list) (rw take-length m) in subst (λ (y : ℕ). position y < size q) (w .3) (entry-position (w .0) (w .1))
 
-      pub ends-alike : EndsAlike program (q .scalars) list (c .vlr)
-      ends-alike = record {
-        same = λ s v.
-            ap (λ (n : ℕ). throughBy program (q .scalars) n s) (reply-accepted f .lengths .scalars)
-            ∙ same-through q program same (size q) (omega arith) s
-            ∙ sym (permitted-straight q s (rw v (reply-accepted f .short)) list (rw v allowed))
-            ∙ sym (run-same (actBy program (q .scalars)) (act q) list (λ x m z. same-acts q program same x (entry-of x m) z) s);
-      }
+      by-entries : (l′ : List ℕ) (p p′ : Progress) (c′ : Control) → p ≡ progress c false → c′ ≡ ended p′
+          → run l′ p′ ≡ walkOf (actBy program (q .scalars)) list (run l p)
+          → state l′ c′ ≡ ranBy q list (state l c)
+      unfolding ranBy
+      by-entries l′ p p′ c′ starts ends w =
+          ap (state l′) ends
+          ∙ ap finished
+          (w
+          ∙ run-same (actBy program (q .scalars)) (act q) list (λ x m z. same-acts q program same x (entry-of x m) z) (run l p)
+          ∙ ap (λ (b : Progress). walkOf (act q) list (run l b)) starts)
 
       pub order-done : (l′ : List ℕ) (p p′ : Progress) (c′ : Control) → p ≡ progress c false → c′ ≡ ended p′
           → run l′ p′ ≡ walkOf (actBy program (q .scalars)) list (run l p)
-          → outcome (done 0) (state l′ c′) ≡ orderedRun q list (state l c)
+          → outcome (done 0) (state l′ c′) ≡ walkedRun q list (state l c)
       order-done l′ p p′ c′ starts ends w =
-          ap (outcome (done 0)) (through f program same l′ p p′ c′ starts ends (w ∙ sym (ends-alike .same (run l p) (ap (λ (b : Progress). b .control .vlr) starts))))
-          ∙ sym (ap (byVerdict (state l c) (ranThrough q (state l c))) allowed)
-          ∙ ordered
+          ap (outcome (done 0)) (by-entries l′ p p′ c′ starts ends w)
+          ∙ sym (ap (byVerdict (state l c) (ranBy q list (state l c))) allowed)
+          ∙ walked

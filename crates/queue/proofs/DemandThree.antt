@@ -1,6 +1,6 @@
 -- DEMAND 3: every permitted list of a queue's steps, walked one entry at a time, ends where the queue ends straight through.
 -- Assumes nothing.
-use mathlib.Core.Path.{_≡_, refl, ap, _∙_, sym}
+use mathlib.Core.Path.{_≡_, refl, ap, _∙_}
 use mathlib.Core.Bool.{Bool, true, false}
 use mathlib.Core.List.{List}
 use Prim.Native.Nat.{ℕ, _≤_}
@@ -34,6 +34,6 @@ walked-straight q list s = at (fine (acceptance (s .control) q)) refl
     at true e = by (verdictOf q (s .control .vlr) list) refl (fine-accepted (s .control) q e .short)
     at false e = refl
 
--- so what is the one is both
-pub both : (q : Queue) (list : List ℕ) (s : State) (o : Outcome) → o ≡ orderedRun q list s → (o ≡ orderedRun q list s) × (o ≡ walkedRun q list s)
-both q list s o e = (e, e ∙ sym (walked-straight q list s))
+-- so what is walked is both
+pub both : (q : Queue) (list : List ℕ) (s : State) (o : Outcome) → o ≡ walkedRun q list s → (o ≡ orderedRun q list s) × (o ≡ walkedRun q list s)
+both q list s o e = (e ∙ walked-straight q list s, e)

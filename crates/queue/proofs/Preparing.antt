@@ -19,19 +19,19 @@ use Rattle.queue.specs.declared.Reply.{Reply}
 use Rattle.queue.specs.declared.Verdict.{Verdict}
 use Rattle.queue.specs.declared.Verdict.the-variants as verdict
 use Rattle.queue.specs.Queue.{standIn, instructionFrom, Queue, size, ofOpcode, fine, positions, acceptance, instructionAt}
-use Rattle.queue.specs.Run.{outcome, verdictOf, orderedRun}
+use Rattle.queue.specs.Run.{outcome, verdictOf, walkedRun}
 use Rattle.queue.specs.Order.{run as walkOf}
 use Rattle.queue.specs.Touch.{position}
 use Rattle.queue.specs.Reply.{replyAnswer}
 use Rattle.queue.specs.Binds.{binds}
-use Rattle.queue.specs.Tables.{EndsAlike, Below, decodedAt, readersWith, writersWith, boundTo, verdictBy, actBy, standing, Accepts}
+use Rattle.queue.specs.Tables.{Below, decodedAt, readersWith, writersWith, boundTo, verdictBy, actBy, standing, Accepts}
 use Rattle.queue.proofs.Accepting.{Lengths, position-passes, position-stops, position-last, by-standing, by-position}
 use Rattle.queue.proofs.Filling.{Filled, fill-none, fill-more}
 use Rattle.queue.proofs.Through.{at-below}
 use Rattle.queue.proofs.Sets.{built-at}
 use Rattle.queue.proofs.Noting.{Noted, noted-none, noted-more, bound-is}
 use Rattle.queue.proofs.Verdicts.{Tables, bound-earlier, tables-verdict}
-use Rattle.queue.proofs.Calls.{Accepted, reply-accepted, through-meets, order-refused, order-stopped, entry-position, ends-alike, order-done}
+use Rattle.queue.proofs.Calls.{Accepted, reply-accepted, through-meets, order-refused, order-stopped, entry-position, order-done}
 
 -- ---- the positions are tested and decoded
 module _ (q : Queue) where
@@ -131,7 +131,7 @@ module _ (q : Queue) where
 
 -- ---- a call with a list, from what its parts give
 module _ (q : Queue) (l : List ℕ) (c : Control) (r : Reply) (program : List Instruction) (accepts : Accepts c q (replyAnswer r) program) where
-  pub listed-refused : fine (replyAnswer r) ≡ false → (list : List ℕ) → outcome (replyAnswer r) (state l c) ≡ orderedRun q list (state l c)
+  pub listed-refused : fine (replyAnswer r) ≡ false → (list : List ℕ) → outcome (replyAnswer r) (state l c) ≡ walkedRun q list (state l c)
   listed-refused f = order-refused q l c r (accepts .answered) f
 
   module _ (passes : fine (replyAnswer r) ≡ true) where
@@ -155,25 +155,21 @@ module _ (q : Queue) (l : List ℕ) (c : Control) (r : Reply) (program : List In
         right : v ≡ verdictOf q (c .vlr) list
         right = checked ∙ tables-verdict q (c .vlr) (getD writers 17 0) bound (prepared-tables q bound readers writers k inv end) (ok .short) list
 
-        pub listed-stopped : (place : ℕ) → v ≡ verdict.Refused place → outcome (orderRefused place) (state l c) ≡ orderedRun q list (state l c)
+        pub listed-stopped : (place : ℕ) → v ≡ verdict.Refused place → outcome (orderRefused place) (state l c) ≡ walkedRun q list (state l c)
         listed-stopped place e = order-stopped q l c r (accepts .answered) passes list v place right e
 
         module _ (permitted : v ≡ verdict.Permitted) (p : Progress) (begun : p ≡ progress c false) where
           pub list-meets : ((p .control .vlr ≤ 64) × (length (q .scalars) ≤ 16))
               × (((j : ℕ) → j < length (q .scalars) → Below (decodedAt program j))
-              × (((i : ℕ) → i < length list → position (getD list i 0) < length (q .scalars))
-              × EndsAlike program (q .scalars) list (p .control .vlr)))
+              × ((i : ℕ) → i < length list → position (getD list i 0) < length (q .scalars)))
           list-meets =
               let t = through-meets q l c r (accepts .answered) passes program decoding p begun in (
                 t .0,
                 (
                   t .1,
-                  (
-                    λ i h. rw (ok .lengths .scalars) (entry-position q l c r (accepts .answered) passes list program decoding v right permitted i h),
-                    rw begun (ends-alike q l c r (accepts .answered) passes list program decoding v right permitted),
-                  ),
+                  λ i h. rw (ok .lengths .scalars) (entry-position q l c r (accepts .answered) passes list program decoding v right permitted i h),
                 ),
               )
 
-          pub listed-done : (l′ : List ℕ) (p′ : Progress) (c′ : Control) → c′ ≡ ended p′ → run l′ p′ ≡ walkOf (actBy program (q .scalars)) list (run l p) → outcome (done 0) (state l′ c′) ≡ orderedRun q list (state l c)
+          pub listed-done : (l′ : List ℕ) (p′ : Progress) (c′ : Control) → c′ ≡ ended p′ → run l′ p′ ≡ walkOf (actBy program (q .scalars)) list (run l p) → outcome (done 0) (state l′ c′) ≡ walkedRun q list (state l c)
           listed-done l′ p′ c′ = order-done q l c r (accepts .answered) passes list program decoding v right permitted l′ p p′ c′ begun

@@ -17,7 +17,7 @@ use Rattle.machine.specs.Kind.{kindOf, isCompare, isMerge, isIota}
 use Rattle.machine.specs.Run.{Run}
 use Rattle.machine.specs.Instruction.{stepOf, wholeOf}
 use Rattle.queue.specs.Queue.{standIn, Queue, size, fine, afterTests, acceptance, instructionAt}
-use Rattle.queue.specs.Order.{check, run}
+use Rattle.queue.specs.Order.{check}
 use Rattle.queue.specs.Touch.{position, element, passing, isConvert}
 use Rattle.queue.specs.declared.Verdict.{Verdict}
 
@@ -192,10 +192,6 @@ actBy program scalars x r = stepOf (decodedAt program (position x)) (getD scalar
 -- and its run straight through
 abbrev pub throughBy : List Instruction → List ℕ → ℕ → Run → Run
 throughBy program scalars n r = rising (λ (k : ℕ) (x : Run). wholeOf (decodedAt program k) (getD scalars k 0) x) n r
-
--- at this VLR a list ends where the queue ends straight through
-pub record EndsAlike (program : List Instruction) (scalars list : List ℕ) (vlr : ℕ) : Type 0 where
-  pub same : (r : Run) → r .progress .control .vlr ≡ vlr → throughBy program scalars (length scalars) r ≡ run (actBy program scalars) list r
 
 -- ---- the tests before the positions of a queue: 12, 8, then 3
 unfoldable pub standing : Control → Queue → Answer

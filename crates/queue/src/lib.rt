@@ -75,8 +75,8 @@ pub fn run(
     }
 }
 
-// A queue by a list of its steps: a permitted list ends in the state of the straight run, which is that of its entries done one
-// after the other; any other is refused with 9 and its first bad position, or its length if steps are missing.
+// A queue by a list of its steps: the entries of a permitted list are done one after the other, which ends in the state of the straight
+// run; any other list is refused with 9 and its first bad position, or its length if steps are missing.
 pub fn run_order(
     elements: &mut [u64; 1024],
     control: Control,
@@ -106,7 +106,7 @@ pub fn run_order(
     match order::check(opcodes.len(), control.vlr, writers[17], &bound, list) {
         Verdict::Permitted => {
             let program = accepted.program;
-            let progress = runs::by_list(elements, run::begin(control), program, scalars, list);
+            let progress = runs::walk(elements, run::begin(control), program, scalars, list);
             Ran {
                 reply: Reply::Done,
                 control: run::end(progress),

@@ -9,7 +9,7 @@ ghost use lib.ListN.{length, getD};
 ghost use Rattle.machine.specs.Run.{run as runOf};
 ghost use Rattle.queue.specs.Order.{run};
 ghost use Rattle.queue.specs.Touch.{position};
-ghost use Rattle.queue.specs.Tables.{Below, decodedAt, actBy, throughBy, EndsAlike};
+ghost use Rattle.queue.specs.Tables.{Below, decodedAt, actBy, throughBy};
 
 // Each instruction in queue order, done whole on what the last one left.
 pub fn straight(
@@ -55,8 +55,8 @@ fn enter(
     )
 }
 
-// The steps of a list, one entry at a time: each is done on what the last one left.
-fn walk(
+// The steps of a permitted list, one entry at a time: each is done on what the last one left.
+pub fn walk(
     elements: &mut [u64; 1024],
     begun: Progress,
     program: [Instruction; 16],
@@ -75,25 +75,4 @@ fn walk(
         i += 1;
     }
     progress
-}
-
-// The run of a permitted list: walked at VLR 2 and below, where that is within the limit of 3 times the straight run. At a greater VLR it is run straight
-// through: that this ends where the entries end is demand 3 itself.
-pub fn by_list(
-    elements: &mut [u64; 1024],
-    begun: Progress,
-    program: [Instruction; 16],
-    scalars: &[u64],
-    list: &[u64],
-) -> Progress
-    requires { ⌜ (begun .control .vlr ≤ 64) × (length (now scalars) ≤ 16) ⌝ }
-    requires { ⌜ ((k : ℕ) → k < length (now scalars) → Below (decodedAt program k)) ⌝ }
-    requires { ⌜ ((i : ℕ) → i < length (now list) → position (getD (now list) i 0) < length (now scalars)) ⌝ }
-    requires { ⌜ EndsAlike program (now scalars) (now list) (begun .control .vlr) ⌝ }
-    ensures { λ r. ⌜ runOf (now (elements .exit)) r ≡ run (actBy program (now (scalars .entry))) (now (list .entry)) (runOf (now (elements .entry)) begun) ⌝ }
-{
-    if begun.control.vlr <= 2 {
-        return walk(elements, begun, program, scalars, list);
-    }
-    straight(elements, begun, program, scalars)
 }
