@@ -94,7 +94,7 @@ static uint64_t offset(void)
 
 struct side {
     _Alignas(4096) uint64_t elements[STATES][KUJ_ELEMENTS]; /* so that both lie alike in the caches */
-    uint64_t control[STATES][KUJ_CONTROLS];
+    struct kuj_control control[STATES];
     uint8_t window[WINDOW];
     uint8_t file[KUJ_FILE_BYTES];
     uint64_t beside, kind_read, bits;
@@ -123,11 +123,8 @@ static void fill(uint64_t (*operand)(void), bool offsets)
     for (int s = 0; s < STATES; s++) {
         for (int k = 0; k < KUJ_ELEMENTS; k++)
             sides[0].elements[s][k] = offsets && k / 64 / 2 == 3 ? offset() : operand();
-        sides[0].control[s][KUJ_VLR] = (uint64_t)vlr;
-        sides[0].control[s][KUJ_VMR] = masks[s] = random_bits();
-        sides[0].control[s][KUJ_VCR] = 0;
-        sides[0].control[s][KUJ_VAER] = 0;
-        sides[0].control[s][KUJ_VPSR] = 1;
+        masks[s] = random_bits();
+        sides[0].control[s] = (struct kuj_control){ .vlr = (uint64_t)vlr, .vmr = masks[s], .vpsr = 1 };
     }
     for (int k = 0; k < WINDOW; k++)
         sides[0].window[k] = (uint8_t)random_bits();
@@ -167,10 +164,10 @@ static inline uint64_t call_execute(struct side *side, int k)
     int s = k / INSTRUCTIONS;
     const struct instruction *in = &program[k % INSTRUCTIONS];
     if (put_back) {
-        side->control[s][KUJ_VMR] = masks[s];
-        side->control[s][KUJ_VPSR] = 1;
+        side->control[s].vmr = masks[s];
+        side->control[s].vpsr = 1;
     }
-    return answer(side->calls->execute(side->elements[s], side->control[s], in->opcode, in->cntrl,
+    return answer(side->calls->execute(side->elements[s], &side->control[s], in->opcode, in->cntrl,
                                        in->scalar, in->base, in->stride, side->window, WINDOW, ORIGIN,
                                        &side->beside),
                   side->beside);
@@ -178,7 +175,7 @@ static inline uint64_t call_execute(struct side *side, int k)
 
 static inline uint64_t call_run(struct side *side, int k)
 {
-    uint32_t number = side->calls->run(side->elements[k], side->control[k], queue.opcodes, QUEUE,
+    uint32_t number = side->calls->run(side->elements[k], &side->control[k], queue.opcodes, QUEUE,
                                        queue.cntrls, QUEUE, queue.scalars, QUEUE, &side->beside);
     return answer(number, side->beside);
 }
@@ -186,7 +183,7 @@ static inline uint64_t call_run(struct side *side, int k)
 static inline uint64_t call_run_order(struct side *side, int k)
 {
     int s = k % STATES;
-    uint32_t number = side->calls->run_order(side->elements[s], side->control[s], queue.opcodes, QUEUE,
+    uint32_t number = side->calls->run_order(side->elements[s], &side->control[s], queue.opcodes, QUEUE,
                                              queue.cntrls, QUEUE, queue.scalars, QUEUE,
                                              orders[k / STATES], (size_t)(QUEUE * vlr), &side->beside);
     return answer(number, side->beside);
@@ -194,37 +191,37 @@ static inline uint64_t call_run_order(struct side *side, int k)
 
 static inline uint64_t call_save(struct side *side, int k)
 {
-    uint32_t number = side->calls->save(side->elements[k], side->control[k], side->file,
+    uint32_t number = side->calls->save(side->elements[k], &side->control[k], side->file,
                                         KUJ_FILE_BYTES, &side->beside);
     return answer(number, side->beside);
 }
 
 static inline uint64_t call_load(struct side *side, int k)
 {
-    uint32_t number = side->calls->load(side->elements[k], side->control[k], side->file,
+    uint32_t number = side->calls->load(side->elements[k], &side->control[k], side->file,
                                         KUJ_FILE_BYTES, &side->beside);
     return answer(number, side->beside);
 }
 
-static uint8_t reading_kind;
+static uint32_t reading_kind;
 
 static inline uint64_t call_reading(struct side *side, int k)
 {
-    uint32_t number = side->calls->reading(side->elements[0], side->control[0], (uint8_t)(k / 64),
-                                           (uint8_t)(k % 64), reading_kind, &side->kind_read,
+    uint32_t number = side->calls->reading(side->elements[0], &side->control[0], (uint32_t)k / 64,
+                                           (uint32_t)k % 64, reading_kind, &side->kind_read,
                                            &side->bits, &side->beside);
     return answer(number, side->beside) + side->bits + side->kind_read;
 }
 
 static inline uint64_t call_read_vlr(struct side *side, int k)
 {
-    uint32_t number = side->calls->read_vlr(side->control[k], &side->beside);
+    uint32_t number = side->calls->read_vlr(&side->control[k], &side->beside);
     return answer(number, side->beside);
 }
 
 static inline uint64_t call_write_vlr(struct side *side, int k)
 {
-    uint32_t number = side->calls->write_vlr(side->control[k], 61 + (uint32_t)k, &side->beside);
+    uint32_t number = side->calls->write_vlr(&side->control[k], 61 + (uint64_t)k, &side->beside);
     return answer(number, side->beside);
 }
 
@@ -320,7 +317,7 @@ static void row(const char *work, const char *unit, passes *timed, call *put, in
             }
         }
     for (int s = 0; s < STATES; s++)
-        if (!put_back && (sides[0].control[s][KUJ_VPSR] != 1 || sides[0].control[s][KUJ_VAER] != 0)) {
+        if (!put_back && (sides[0].control[s].vpsr != 1 || sides[0].control[s].vaer != 0)) {
             fail(work, "an exception was recorded, so that refusals were timed", s);
             return;
         }
