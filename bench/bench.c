@@ -1,7 +1,7 @@
 /*
  * Times the proved library against plain C over the same inputs, in one run.
  *
- *   bench [LIMIT]
+ *   bench [LIMIT [LIST_LIMIT]]
  *
  * Each row is one piece of work, done by both. First every call of the row is put to both once, and
  * number, what stands beside it, elements, control, memory, file and bits have to be equal and as the
@@ -9,10 +9,13 @@
  * each counts, so that other work on the machine weighs on neither. After every round what both left
  * has to be equal again.
  *
- * Prints Markdown tables: the rows; the groups, each with the mean of its rows and the ratio of the
- * means; and what a list costs beside the straight run of the same queue. The exit status is 1 if
- * anything differed, or if a LIMIT is given and a group's ratio is above it or a list costs more than 3
- * straight runs.
+ * Prints Markdown tables: the rows, and the groups, each with the mean of its rows and the ratio of the
+ * means. LIMIT is the most that a group's ratio may be, but for the group "queue by a list": both
+ * sides walk its lists one entry at a time, and LIST_LIMIT is the most for it. A limit that is not
+ * given, or 0, judges nothing. Groups above theirs are named on standard error.
+ *
+ * The exit status is 1 if anything differed or a group is above its limit; 2 if an argument is no
+ * limit.
  */
 #define _POSIX_C_SOURCE 199309L
 #include "calls.h"
@@ -94,7 +97,7 @@ static uint64_t offset(void)
 
 struct side {
     _Alignas(4096) uint64_t elements[STATES][KUJ_ELEMENTS]; /* so that both lie alike in the caches */
-    uint64_t control[STATES][KUJ_CONTROLS];
+    struct kuj_control control[STATES];
     uint8_t window[WINDOW];
     uint8_t file[KUJ_FILE_BYTES];
     uint64_t beside, kind_read, bits;
@@ -123,11 +126,8 @@ static void fill(uint64_t (*operand)(void), bool offsets)
     for (int s = 0; s < STATES; s++) {
         for (int k = 0; k < KUJ_ELEMENTS; k++)
             sides[0].elements[s][k] = offsets && k / 64 / 2 == 3 ? offset() : operand();
-        sides[0].control[s][KUJ_VLR] = (uint64_t)vlr;
-        sides[0].control[s][KUJ_VMR] = masks[s] = random_bits();
-        sides[0].control[s][KUJ_VCR] = 0;
-        sides[0].control[s][KUJ_VAER] = 0;
-        sides[0].control[s][KUJ_VPSR] = 1;
+        masks[s] = random_bits();
+        sides[0].control[s] = (struct kuj_control){ .vlr = (uint64_t)vlr, .vmr = masks[s], .vpsr = 1 };
     }
     for (int k = 0; k < WINDOW; k++)
         sides[0].window[k] = (uint8_t)random_bits();
@@ -167,10 +167,10 @@ static inline uint64_t call_execute(struct side *side, int k)
     int s = k / INSTRUCTIONS;
     const struct instruction *in = &program[k % INSTRUCTIONS];
     if (put_back) {
-        side->control[s][KUJ_VMR] = masks[s];
-        side->control[s][KUJ_VPSR] = 1;
+        side->control[s].vmr = masks[s];
+        side->control[s].vpsr = 1;
     }
-    return answer(side->calls->execute(side->elements[s], side->control[s], in->opcode, in->cntrl,
+    return answer(side->calls->execute(side->elements[s], &side->control[s], in->opcode, in->cntrl,
                                        in->scalar, in->base, in->stride, side->window, WINDOW, ORIGIN,
                                        &side->beside),
                   side->beside);
@@ -178,7 +178,7 @@ static inline uint64_t call_execute(struct side *side, int k)
 
 static inline uint64_t call_run(struct side *side, int k)
 {
-    uint32_t number = side->calls->run(side->elements[k], side->control[k], queue.opcodes, QUEUE,
+    uint32_t number = side->calls->run(side->elements[k], &side->control[k], queue.opcodes, QUEUE,
                                        queue.cntrls, QUEUE, queue.scalars, QUEUE, &side->beside);
     return answer(number, side->beside);
 }
@@ -186,7 +186,7 @@ static inline uint64_t call_run(struct side *side, int k)
 static inline uint64_t call_run_order(struct side *side, int k)
 {
     int s = k % STATES;
-    uint32_t number = side->calls->run_order(side->elements[s], side->control[s], queue.opcodes, QUEUE,
+    uint32_t number = side->calls->run_order(side->elements[s], &side->control[s], queue.opcodes, QUEUE,
                                              queue.cntrls, QUEUE, queue.scalars, QUEUE,
                                              orders[k / STATES], (size_t)(QUEUE * vlr), &side->beside);
     return answer(number, side->beside);
@@ -194,48 +194,49 @@ static inline uint64_t call_run_order(struct side *side, int k)
 
 static inline uint64_t call_save(struct side *side, int k)
 {
-    uint32_t number = side->calls->save(side->elements[k], side->control[k], side->file,
+    uint32_t number = side->calls->save(side->elements[k], &side->control[k], side->file,
                                         KUJ_FILE_BYTES, &side->beside);
     return answer(number, side->beside);
 }
 
 static inline uint64_t call_load(struct side *side, int k)
 {
-    uint32_t number = side->calls->load(side->elements[k], side->control[k], side->file,
+    uint32_t number = side->calls->load(side->elements[k], &side->control[k], side->file,
                                         KUJ_FILE_BYTES, &side->beside);
     return answer(number, side->beside);
 }
 
-static uint8_t reading_kind;
+static uint32_t reading_kind;
 
 static inline uint64_t call_reading(struct side *side, int k)
 {
-    uint32_t number = side->calls->reading(side->elements[0], side->control[0], (uint8_t)(k / 64),
-                                           (uint8_t)(k % 64), reading_kind, &side->kind_read,
+    uint32_t number = side->calls->reading(side->elements[0], &side->control[0], (uint32_t)k / 64,
+                                           (uint32_t)k % 64, reading_kind, &side->kind_read,
                                            &side->bits, &side->beside);
     return answer(number, side->beside) + side->bits + side->kind_read;
 }
 
 static inline uint64_t call_read_vlr(struct side *side, int k)
 {
-    uint32_t number = side->calls->read_vlr(side->control[k], &side->beside);
+    uint32_t number = side->calls->read_vlr(&side->control[k], &side->beside);
     return answer(number, side->beside);
 }
 
 static inline uint64_t call_write_vlr(struct side *side, int k)
 {
-    uint32_t number = side->calls->write_vlr(side->control[k], 61 + (uint32_t)k, &side->beside);
+    uint32_t number = side->calls->write_vlr(&side->control[k], 61 + (uint64_t)k, &side->beside);
     return answer(number, side->beside);
 }
 
 /* ---- Timing ---- */
 
 static const char *group;
-static double group_time[2], limit, worst;
+static double group_time[2];
 static int group_rows, failures;
-static double last_row[2]; /* ns a unit */
+static double limit, list_limit; /* of a group's ratio; 0 for none */
 static char lines[16][160]; /* the groups' lines, printed at the end */
-static int group_lines;
+static char above[16][160]; /* what is said of groups above their limit */
+static int group_lines, groups_above;
 
 static double seconds(void)
 {
@@ -320,16 +321,16 @@ static void row(const char *work, const char *unit, passes *timed, call *put, in
             }
         }
     for (int s = 0; s < STATES; s++)
-        if (!put_back && (sides[0].control[s][KUJ_VPSR] != 1 || sides[0].control[s][KUJ_VAER] != 0)) {
+        if (!put_back && (sides[0].control[s].vpsr != 1 || sides[0].control[s].vaer != 0)) {
             fail(work, "an exception was recorded, so that refusals were timed", s);
             return;
         }
     double scale = 1e9 / ((double)repeats * n * units);
     for (int side = 0; side < 2; side++)
-        group_time[side] += last_row[side] = best[side] * scale;
+        group_time[side] += best[side] * scale;
     group_rows++;
     printf("| %s | %s | %s | %.2f | %.2f | %.2f |\n", group, work, unit,
-           last_row[0], last_row[1], best[0] / best[1]);
+           best[0] * scale, best[1] * scale, best[0] / best[1]);
     fflush(stdout);
 }
 
@@ -340,16 +341,24 @@ static void begin(const char *name)
     group_rows = 0;
 }
 
-static void end(const char *unit)
+/* The group's line. at_most is the limit that judges it, called name. */
+static void end_within(const char *unit, double at_most, const char *name)
 {
     if (group_rows == 0)
         return;
     double ratio = group_time[0] / group_time[1];
-    if (ratio > worst)
-        worst = ratio;
+    bool over = at_most > 0 && ratio > at_most;
     snprintf(lines[group_lines++], sizeof lines[0], "| %s | %s | %.2f | %.2f | %.2f%s |", group, unit,
              group_time[0] / group_rows, group_time[1] / group_rows, ratio,
-             limit > 0 && ratio > limit ? " (over the limit)" : "");
+             over ? " (above the limit)" : "");
+    if (over)
+        snprintf(above[groups_above++], sizeof above[0],
+                 "ABOVE THE LIMIT: %s: %.3f times plain C, %s is %g", group, ratio, name, at_most);
+}
+
+static void end(const char *unit)
+{
+    end_within(unit, limit, "LIMIT");
 }
 
 /* ---- Rows of one instruction ---- */
@@ -480,7 +489,7 @@ static const struct instruction whole_numbers[QUEUE] = {
     { 0x80, EXC | 0xD36, 0, 0, 0 },         /* V6 = V13 + V3 */
 };
 
-/* The work whose straight run is the fastest: no queue's list has less to be measured by. */
+/* The work whose straight run is the fastest. */
 static const struct instruction exclusive_ors[QUEUE] = {
     { 0xE8, 0x018, 0, 0, 0 }, { 0xE8, 0x129, 0, 0, 0 }, { 0xE8, 0x23A, 0, 0, 0 }, { 0xE8, 0x30B, 0, 0, 0 },
     { 0xE8, 0x01C, 0, 0, 0 }, { 0xE8, 0x12D, 0, 0, 0 }, { 0xE8, 0x23E, 0, 0, 0 }, { 0xE8, 0x30F, 0, 0, 0 },
@@ -556,41 +565,9 @@ static void random_orders(void)
         random_order(orders[o]);
 }
 
-static const double LIST_LIMIT = 3; /* what a list may cost, in straight runs of the same queue */
-static double dearest_list;
-static char list_lines[16][160];
-static int list_rows;
-
-/* What a call by a list costs in straight runs of the same queue, on one side. Rounds of the two
-   alternate, so that both have the processor at the same speed. */
-static double in_straight_runs(struct side *side, int n)
-{
-    passes *timed[2] = { passes_run_order, passes_run };
-    int calls[2] = { n, STATES }, repeats[2] = { 1, 1 };
-    double best[2] = { 1e9, 1e9 };
-    for (int round = 0; round < ROUNDS; round++)
-        for (int k = 0; k < 2; k++) {
-            double start = seconds();
-            timed[k](side, calls[k], repeats[k]);
-            double time = seconds() - start;
-            if (time < ROUND_SECONDS) {
-                repeats[k] *= 2;
-                best[k] = 1e9;
-            } else if (time / repeats[k] < best[k]) {
-                best[k] = time / repeats[k];
-            }
-        }
-    return best[0] / calls[0] / (best[1] / calls[1]);
-}
-
 static void by_list(const char *work, int n)
 {
     row(work, "entry", passes_run_order, call_run_order, n, QUEUE * vlr, 0, 0);
-    double ratio = in_straight_runs(&sides[0], n);
-    if (ratio > dearest_list)
-        dearest_list = ratio;
-    snprintf(list_lines[list_rows++], sizeof list_lines[0], "| %s | %.2f%s | %.2f |", work, ratio,
-             limit > 0 && ratio > LIST_LIMIT ? " (over the limit)" : "", in_straight_runs(&sides[1], n));
 }
 
 /* The queues, each with the operands of its works. */
@@ -640,9 +617,9 @@ static void queues(void)
         random_orders();
         by_list(queues_timed[q].lists[2], ORDERS * STATES);
     }
-    end("entry");
+    end_within("entry", list_limit, "LIST_LIMIT");
 
-    /* VLR 2, the greatest at which a list is walked, and 3. No group has these rows. */
+    /* VLR 2 and 3. No group has these rows. */
     begin("short queue");
     for (vlr = 2; vlr <= 3; vlr++)
         for (int q = 0; q < TIMED; q++) {
@@ -705,9 +682,22 @@ static void control_moves(void)
     end("call");
 }
 
+/* The limit that an argument gives: a number from 0 on. */
+static double limit_of(const char *argument)
+{
+    char *rest;
+    double given = strtod(argument, &rest);
+    if (rest == argument || *rest != '\0' || !(given >= 0)) {
+        fprintf(stderr, "usage: bench [LIMIT [LIST_LIMIT]]: %s is no limit\n", argument);
+        exit(2);
+    }
+    return given;
+}
+
 int main(int argc, char **argv)
 {
-    limit = argc > 1 ? atof(argv[1]) : 0;
+    limit = argc > 1 ? limit_of(argv[1]) : 0;
+    list_limit = argc > 2 ? limit_of(argv[2]) : 0;
     sides[0].calls = &proved;
     sides[1].calls = &plain;
     random_state = 1;
@@ -722,10 +712,9 @@ int main(int argc, char **argv)
     printf("\n| group | unit | proved, ns | plain C, ns | ratio |\n|---|---|---|---|---|\n");
     for (int k = 0; k < group_lines; k++)
         puts(lines[k]);
-    printf("\n| list, times the straight run | proved | plain C |\n|---|---|---|\n");
-    for (int k = 0; k < list_rows; k++)
-        puts(list_lines[k]);
     if (failures == 0)
         fprintf(stderr, "SAME results in every row\n");
-    return failures || (limit > 0 && (worst > limit || dearest_list > LIST_LIMIT));
+    for (int k = 0; k < groups_above; k++)
+        fprintf(stderr, "%s\n", above[k]);
+    return failures > 0 || groups_above > 0;
 }

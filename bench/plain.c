@@ -290,12 +290,12 @@ INLINE bool compared(enum work work, enum relation relation, uint64_t a, uint64_
     return holds(relation, f_rank(x), f_rank(y));
 }
 
-INLINE uint64_t operated(const uint64_t *control, const struct instruction *in)
+INLINE uint64_t operated(const struct kuj_control *control, const struct instruction *in)
 {
-    uint64_t below = ones_below(control[KUJ_VLR]);
+    uint64_t below = ones_below(control->vlr);
     if (!in->moe || in->work == MERGE)
         return below;
-    return below & (in->mtf ? control[KUJ_VMR] : ~control[KUJ_VMR]);
+    return below & (in->mtf ? control->vmr : ~control->vmr);
 }
 
 /* For each one of `which`, rising: a plain loop where they are all those below VLR. */
@@ -311,9 +311,9 @@ INLINE uint64_t operated(const uint64_t *control, const struct instruction *in)
 #define OPERANDS \
     const uint64_t *va = elements + 64 * in->va, *vb = elements + 64 * in->vb; \
     const uint64_t scalar = in->scalar, which = operated(control, in); \
-    const unsigned vlr = (unsigned)control[KUJ_VLR]
+    const unsigned vlr = (unsigned)control->vlr
 
-static void compare(const uint64_t *elements, uint64_t *control, const struct instruction *in,
+static void compare(const uint64_t *elements, struct kuj_control *control, const struct instruction *in,
                     uint32_t *types)
 {
     OPERANDS;
@@ -343,28 +343,28 @@ static void compare(const uint64_t *elements, uint64_t *control, const struct in
         found = ~found;
     if (refused & which)
         *types |= RESERVED_OPERAND;
-    control[KUJ_VMR] = (control[KUJ_VMR] & ~which) | (found & ~refused & which);
+    control->vmr = (control->vmr & ~which) | (found & ~refused & which);
 }
 
-static void iota(uint64_t *elements, uint64_t *control, const struct instruction *in)
+static void iota(uint64_t *elements, struct kuj_control *control, const struct instruction *in)
 {
     uint64_t *vc = elements + 64 * in->vc;
-    uint64_t left = in->mtf ? control[KUJ_VMR] : ~control[KUJ_VMR];
-    left &= ones_below(control[KUJ_VLR]);
+    uint64_t left = in->mtf ? control->vmr : ~control->vmr;
+    left &= ones_below(control->vlr);
     unsigned count = 0;
     for (; left; left &= left - 1, count++)
         vc[count] = with_low(vc[count], (uint32_t)__builtin_ctzll(left) * (uint32_t)in->scalar);
-    control[KUJ_VCR] = count;
+    control->vcr = count;
 }
 
 /* A whole operate instruction. What it records is gathered in *recorded. */
-static void operate(uint64_t *elements, uint64_t *control, const struct instruction *in,
+static void operate(uint64_t *elements, struct kuj_control *control, const struct instruction *in,
                     uint32_t *recorded)
 {
     OPERANDS;
     uint64_t *vc = elements + 64 * in->vc;
     const uint64_t below = ones_below(vlr);
-    const uint64_t matching = in->mtf ? control[KUJ_VMR] : ~control[KUJ_VMR];
+    const uint64_t matching = in->mtf ? control->vmr : ~control->vmr;
     const bool exc = in->exc;
     uint32_t types = 0;
 #define OPERATE(WORK) \
@@ -406,14 +406,14 @@ static void operate(uint64_t *elements, uint64_t *control, const struct instruct
 }
 
 /* One step of a list: the work of element i alone, or all of an IOTA. */
-static void step(uint64_t *elements, uint64_t *control, const struct instruction *in, unsigned i,
-                 uint32_t *recorded)
+static void step(uint64_t *elements, struct kuj_control *control, const struct instruction *in,
+                 unsigned i, uint32_t *recorded)
 {
     if (in->work == IOTA) {
         iota(elements, control, in);
         return;
     }
-    bool match = (control[KUJ_VMR] >> i & 1) == in->mtf;
+    bool match = (control->vmr >> i & 1) == in->mtf;
     if (in->moe && !match && in->work != MERGE)
         return;
     uint64_t a = in->odd ? in->scalar : elements[64 * in->va + i], b = elements[64 * in->vb + i];
@@ -421,7 +421,7 @@ static void step(uint64_t *elements, uint64_t *control, const struct instruction
         bool reserved = false;
         bool found = compared(in->work, in->vc & 3, a, b, &reserved) ^ (in->vc >> 2 & 1);
         uint64_t bit = (uint64_t)(found && !reserved) << i;
-        control[KUJ_VMR] = (control[KUJ_VMR] & ~((uint64_t)1 << i)) | bit;
+        control->vmr = (control->vmr & ~((uint64_t)1 << i)) | bit;
         *recorded |= reserved ? RESERVED_OPERAND : 0;
         return;
     }
@@ -434,23 +434,23 @@ static void step(uint64_t *elements, uint64_t *control, const struct instruction
 
 /* ---- The state ---- */
 
-INLINE bool out_of_range(const uint64_t *control)
+INLINE bool out_of_range(const struct kuj_control *control)
 {
-    return control[KUJ_VLR] > 64 || control[KUJ_VCR] > 64 || (control[KUJ_VAER] & ~(uint64_t)VAER_BITS)
-        || (control[KUJ_VPSR] & ~(uint64_t)(VEN | AEX));
+    return control->vlr > 64 || control->vcr > 64 || (control->vaer & ~(uint64_t)VAER_BITS)
+        || (control->vpsr & ~(uint64_t)(VEN | AEX));
 }
 
-INLINE bool disabled(const uint64_t *control)
+INLINE bool disabled(const struct kuj_control *control)
 {
-    return !(control[KUJ_VPSR] & VEN);
+    return !(control->vpsr & VEN);
 }
 
 /* The end of a run: VAER gathers, and anything recorded disables the processor. */
-INLINE void record(uint64_t *control, uint32_t recorded)
+INLINE void record(struct kuj_control *control, uint32_t recorded)
 {
-    control[KUJ_VAER] |= recorded;
+    control->vaer |= recorded;
     if (recorded)
-        control[KUJ_VPSR] = (control[KUJ_VPSR] & ~(uint64_t)VEN) | AEX;
+        control->vpsr = (control->vpsr & ~(uint64_t)VEN) | AEX;
 }
 
 /* ---- Memory ---- */
@@ -477,15 +477,15 @@ INLINE uint32_t located(const uint64_t *vb, bool odd, uint64_t which, unsigned v
     return DONE;
 }
 
-static uint32_t move(uint64_t *elements, const uint64_t *control, const struct instruction *in,
-                     uint32_t base, uint32_t stride, uint8_t *window, size_t window_len,
-                     uint64_t origin, uint64_t *beside)
+static uint32_t move(uint64_t *elements, const struct kuj_control *control,
+                     const struct instruction *in, uint32_t base, uint32_t stride, uint8_t *window,
+                     size_t window_len, uint64_t origin, uint64_t *beside)
 {
     const uint64_t limit = (uint64_t)1 << 32;
     if (window_len > 65536 || origin % 8 || origin > limit || window_len > limit - origin)
         return WINDOW_REFUSED;
-    const uint64_t which = operated(control, in), below = ones_below(control[KUJ_VLR]);
-    const unsigned vlr = (unsigned)control[KUJ_VLR];
+    const uint64_t which = operated(control, in), below = ones_below(control->vlr);
+    const unsigned vlr = (unsigned)control->vlr;
     const uint64_t *vb = elements + 64 * in->vb;
     uint64_t *vc = elements + 64 * in->vc;
     uint32_t offsets[64];
@@ -505,7 +505,7 @@ static uint32_t move(uint64_t *elements, const uint64_t *control, const struct i
 
 /* ---- One instruction ---- */
 
-uint32_t kuj_execute(uint64_t elements[1024], uint64_t control[5],
+uint32_t kuj_execute(uint64_t elements[1024], struct kuj_control *control,
                      uint8_t opcode, uint16_t cntrl, uint64_t scalar, uint32_t base, uint32_t stride,
                      uint8_t *window, size_t window_len, uint64_t origin, uint64_t *beside)
 {
@@ -532,7 +532,7 @@ uint32_t kuj_execute(uint64_t elements[1024], uint64_t control[5],
 
 enum { QUEUE = 16 };
 
-static uint32_t accepted(const uint64_t *control, const uint8_t *opcodes, size_t opcodes_len,
+static uint32_t accepted(const struct kuj_control *control, const uint8_t *opcodes, size_t opcodes_len,
                          const uint16_t *cntrls, size_t cntrls_len,
                          const uint64_t *scalars, size_t scalars_len,
                          struct instruction queue[QUEUE], uint64_t *beside)
@@ -558,7 +558,7 @@ static uint32_t accepted(const uint64_t *control, const uint8_t *opcodes, size_t
     return DONE;
 }
 
-uint32_t kuj_run(uint64_t elements[1024], uint64_t control[5],
+uint32_t kuj_run(uint64_t elements[1024], struct kuj_control *control,
                  const uint8_t *opcodes, size_t opcodes_len, const uint16_t *cntrls, size_t cntrls_len,
                  const uint64_t *scalars, size_t scalars_len, uint64_t *beside)
 {
@@ -645,7 +645,7 @@ static bool permitted(const struct instruction *queue, size_t n, unsigned vlr,
     return order_len == steps;
 }
 
-uint32_t kuj_run_order(uint64_t elements[1024], uint64_t control[5],
+uint32_t kuj_run_order(uint64_t elements[1024], struct kuj_control *control,
                        const uint8_t *opcodes, size_t opcodes_len,
                        const uint16_t *cntrls, size_t cntrls_len,
                        const uint64_t *scalars, size_t scalars_len,
@@ -656,7 +656,7 @@ uint32_t kuj_run_order(uint64_t elements[1024], uint64_t control[5],
                                scalars, scalars_len, queue, beside);
     if (number)
         return number;
-    if (!permitted(queue, opcodes_len, (unsigned)control[KUJ_VLR], order, order_len, beside))
+    if (!permitted(queue, opcodes_len, (unsigned)control->vlr, order, order_len, beside))
         return ORDER_REFUSED;
     uint32_t recorded = 0;
     for (size_t k = 0; k < order_len; k++)
@@ -671,7 +671,7 @@ uint32_t kuj_run_order(uint64_t elements[1024], uint64_t control[5],
 enum { RECORDS = 1029 };
 
 /* A record is two little-endian words: its number (two bytes and six of zero) and its contents. */
-uint32_t kuj_save(const uint64_t elements[1024], const uint64_t control[5],
+uint32_t kuj_save(const uint64_t elements[1024], const struct kuj_control *control,
                   uint8_t *file, size_t file_len, uint64_t *beside)
 {
     *beside = 0;
@@ -685,26 +685,30 @@ uint32_t kuj_save(const uint64_t elements[1024], const uint64_t control[5],
         put64(file, r);
         put64(file + 8, elements[r]);
     }
+    const uint64_t numbers[5] = {
+        control->vlr, control->vmr, control->vcr, control->vaer, control->vpsr
+    };
     for (unsigned k = 0; k < 5; k++, file += 16) {
         put64(file, 1024 + k);
-        put64(file + 8, control[k]);
+        put64(file + 8, numbers[k]);
     }
     return DONE;
 }
 
-uint32_t kuj_load(uint64_t elements[1024], uint64_t control[5],
+uint32_t kuj_load(uint64_t elements[1024], struct kuj_control *control,
                   const uint8_t *file, size_t file_len, uint64_t *beside)
 {
     size_t whole = file_len / 16 < RECORDS ? file_len / 16 : RECORDS;
-    uint64_t loaded[5] = { 0 };
+    struct kuj_control loaded = { 0 };
+    uint64_t *const numbers[5] = { &loaded.vlr, &loaded.vmr, &loaded.vcr, &loaded.vaer, &loaded.vpsr };
     for (size_t r = 0; r < whole; r++)
         if (get64(file + 16 * r) != r) {
             whole = r;
             break;
         }
     for (size_t r = 1024; r < whole; r++) {
-        loaded[r - 1024] = get64(file + 16 * r + 8);
-        if (out_of_range(loaded)) {
+        *numbers[r - 1024] = get64(file + 16 * r + 8);
+        if (out_of_range(&loaded)) {
             whole = r;
             break;
         }
@@ -715,14 +719,13 @@ uint32_t kuj_load(uint64_t elements[1024], uint64_t control[5],
     }
     for (size_t r = 0; r < 1024; r++)
         elements[r] = get64(file + 16 * r + 8);
-    for (size_t k = 0; k < 5; k++)
-        control[k] = loaded[k];
+    *control = loaded;
     *beside = 0;
     return DONE;
 }
 
-uint32_t kuj_reading(const uint64_t elements[1024], const uint64_t control[5],
-                     uint8_t reg, uint8_t element, uint8_t kind,
+uint32_t kuj_reading(const uint64_t elements[1024], const struct kuj_control *control,
+                     uint32_t reg, uint32_t element, uint32_t kind,
                      uint64_t *kind_read, uint64_t *bits, uint64_t *beside)
 {
     *beside = 0;
@@ -747,7 +750,7 @@ uint32_t kuj_reading(const uint64_t elements[1024], const uint64_t control[5],
 
 /* ---- Control moves ---- */
 
-INLINE uint32_t read_number(const uint64_t *control, bool when_disabled, uint64_t value,
+INLINE uint32_t read_number(const struct kuj_control *control, bool when_disabled, uint64_t value,
                             uint64_t *beside)
 {
     *beside = 0;
@@ -759,38 +762,39 @@ INLINE uint32_t read_number(const uint64_t *control, bool when_disabled, uint64_
     return DONE;
 }
 
-uint32_t kuj_read_vlr(const uint64_t control[5], uint64_t *beside)
+uint32_t kuj_read_vlr(const struct kuj_control *control, uint64_t *beside)
 {
-    return read_number(control, false, control[KUJ_VLR], beside);
+    return read_number(control, false, control->vlr, beside);
 }
 
-uint32_t kuj_read_vcr(const uint64_t control[5], uint64_t *beside)
+uint32_t kuj_read_vcr(const struct kuj_control *control, uint64_t *beside)
 {
-    return read_number(control, false, control[KUJ_VCR], beside);
+    return read_number(control, false, control->vcr, beside);
 }
 
-uint32_t kuj_read_vmr_low(const uint64_t control[5], uint64_t *beside)
+uint32_t kuj_read_vmr_low(const struct kuj_control *control, uint64_t *beside)
 {
-    return read_number(control, false, control[KUJ_VMR] & LOW, beside);
+    return read_number(control, false, control->vmr & LOW, beside);
 }
 
-uint32_t kuj_read_vmr_high(const uint64_t control[5], uint64_t *beside)
+uint32_t kuj_read_vmr_high(const struct kuj_control *control, uint64_t *beside)
 {
-    return read_number(control, false, control[KUJ_VMR] >> 32, beside);
+    return read_number(control, false, control->vmr >> 32, beside);
 }
 
-uint32_t kuj_read_vaer(const uint64_t control[5], uint64_t *beside)
+uint32_t kuj_read_vaer(const struct kuj_control *control, uint64_t *beside)
 {
-    return read_number(control, true, control[KUJ_VAER], beside);
+    return read_number(control, true, control->vaer, beside);
 }
 
-uint32_t kuj_read_vpsr(const uint64_t control[5], uint64_t *beside)
+uint32_t kuj_read_vpsr(const struct kuj_control *control, uint64_t *beside)
 {
-    return read_number(control, true, control[KUJ_VPSR], beside);
+    return read_number(control, true, control->vpsr, beside);
 }
 
-INLINE uint32_t write_number(uint64_t *control, unsigned place, uint64_t value, uint64_t most,
-                             uint64_t *beside)
+/* *number is the one of control's that is written. */
+INLINE uint32_t write_number(const struct kuj_control *control, uint64_t *number, uint64_t value,
+                             uint64_t most, uint64_t *beside)
 {
     *beside = 0;
     if (out_of_range(control))
@@ -799,32 +803,32 @@ INLINE uint32_t write_number(uint64_t *control, unsigned place, uint64_t value, 
         return DISABLED;
     if (value > most)
         return VALUE_REFUSED;
-    control[place] = value;
+    *number = value;
     return DONE;
 }
 
-uint32_t kuj_write_vlr(uint64_t control[5], uint32_t value, uint64_t *beside)
+uint32_t kuj_write_vlr(struct kuj_control *control, uint64_t value, uint64_t *beside)
 {
-    return write_number(control, KUJ_VLR, value, 64, beside);
+    return write_number(control, &control->vlr, value, 64, beside);
 }
 
-uint32_t kuj_write_vcr(uint64_t control[5], uint32_t value, uint64_t *beside)
+uint32_t kuj_write_vcr(struct kuj_control *control, uint64_t value, uint64_t *beside)
 {
-    return write_number(control, KUJ_VCR, value, 64, beside);
+    return write_number(control, &control->vcr, value, 64, beside);
 }
 
-uint32_t kuj_write_vmr_low(uint64_t control[5], uint32_t value, uint64_t *beside)
+uint32_t kuj_write_vmr_low(struct kuj_control *control, uint32_t value, uint64_t *beside)
 {
-    return write_number(control, KUJ_VMR, with_low(control[KUJ_VMR], value), UINT64_MAX, beside);
+    return write_number(control, &control->vmr, with_low(control->vmr, value), UINT64_MAX, beside);
 }
 
-uint32_t kuj_write_vmr_high(uint64_t control[5], uint32_t value, uint64_t *beside)
+uint32_t kuj_write_vmr_high(struct kuj_control *control, uint32_t value, uint64_t *beside)
 {
-    uint64_t vmr = (uint64_t)value << 32 | (control[KUJ_VMR] & LOW);
-    return write_number(control, KUJ_VMR, vmr, UINT64_MAX, beside);
+    uint64_t vmr = (uint64_t)value << 32 | (control->vmr & LOW);
+    return write_number(control, &control->vmr, vmr, UINT64_MAX, beside);
 }
 
-uint32_t kuj_write_vpsr(uint64_t control[5], uint32_t value, uint64_t *beside)
+uint32_t kuj_write_vpsr(struct kuj_control *control, uint32_t value, uint64_t *beside)
 {
     const uint32_t settings = 1 << 0 | 1 << 1 | 1 << 2 | 1 << 3 | 1 << 4 | 1 << 8 | 1 << 9;
     *beside = 0;
@@ -832,11 +836,11 @@ uint32_t kuj_write_vpsr(uint64_t control[5], uint32_t value, uint64_t *beside)
         return STATE_OUT_OF_RANGE;
     if (!(settings >> (value & 15) & 1) || (value & 0x7CFFFF10))
         return VALUE_REFUSED;
-    uint64_t vpsr = control[KUJ_VPSR] & AEX;
+    uint64_t vpsr = control->vpsr & AEX;
     if (value & 0x82) {
         vpsr = 0;
-        control[KUJ_VAER] = 0;
+        control->vaer = 0;
     }
-    control[KUJ_VPSR] = vpsr | (value & VEN);
+    control->vpsr = vpsr | (value & VEN);
     return DONE;
 }

@@ -1,8 +1,10 @@
 #!/bin/sh
 # Times the proved library against plain C (gcc -O2) over the same inputs in one run.
-#   bench/run.sh [LIMIT]
-# The table goes to standard output. The exit status is 1 if the two ever differ, or if a LIMIT is
-# given and a group's ratio is above it or a list costs more than 3 straight runs.
+#   bench/run.sh [LIMIT [LIST_LIMIT]]
+# The tables go to standard output. The exit status is 1 if the two ever differ, or if a group's ratio
+# is above the limit given for it: LIST_LIMIT for the group "queue by a list", whose lists both walk one
+# entry at a time, and LIMIT for every other. A limit that is not given, or 0, judges nothing. Groups
+# above their limit are named on standard error.
 # KUJAWIAN_ARCHIVES names a folder that already holds libkujawian.a; else it is built. Some 20
 # seconds beside that.
 set -eu

@@ -32,9 +32,9 @@ static int refused(const char *call, uint32_t number, uint64_t beside)
 
 /* Each number of the control record has a call that reads it. While the processor is disabled, after
    an exception, all but VAER and VPSR are refused with 3. */
-typedef uint32_t read_call(const uint64_t control[5], uint64_t *beside);
+typedef uint32_t read_call(const struct kuj_control *control, uint64_t *beside);
 
-static void print_control(const uint64_t control[5])
+static void print_control(const struct kuj_control *control)
 {
     static const struct { const char *name, *format; read_call *read; } rows[] = {
         { "VLR", "%" PRIu64, kuj_read_vlr },
@@ -56,8 +56,8 @@ static void print_control(const uint64_t control[5])
     }
 }
 
-static void print_reading(const uint64_t elements[1024], const uint64_t control[5],
-                          uint8_t reg, uint8_t element, uint8_t kind)
+static void print_reading(const uint64_t elements[1024], const struct kuj_control *control,
+                          uint32_t reg, uint32_t element, uint32_t kind)
 {
     uint64_t kind_read, bits, beside;
     uint32_t number = kuj_reading(elements, control, reg, element, kind, &kind_read, &bits, &beside);
@@ -76,7 +76,8 @@ static void print_reading(const uint64_t elements[1024], const uint64_t control[
 
 int main(int argc, char **argv)
 {
-    static uint64_t elements[KUJ_ELEMENTS], control[KUJ_CONTROLS];
+    static uint64_t elements[KUJ_ELEMENTS];
+    static struct kuj_control control;
     static uint8_t saved[KUJ_FILE_BYTES + 1]; /* one more, so that a file too long is seen as such */
     uint64_t beside;
 
@@ -87,7 +88,7 @@ int main(int argc, char **argv)
     }
     size_t length = fread(saved, 1, sizeof saved, file);
     fclose(file);
-    uint32_t number = kuj_load(elements, control, saved, length, &beside);
+    uint32_t number = kuj_load(elements, &control, saved, length, &beside);
     if (number != 0)
         return refused("load", number, beside);
 
@@ -101,17 +102,17 @@ int main(int argc, char **argv)
     };
     const uint64_t scalars[] = { 0, 0x3F00 /* 0.125 */, 0, 0x43C8 /* 100.0 */, 0 };
     const size_t n = sizeof opcodes;
-    number = kuj_run(elements, control, opcodes, n, cntrls, n, scalars, n, &beside);
+    number = kuj_run(elements, &control, opcodes, n, cntrls, n, scalars, n, &beside);
     if (number != 0)
         return refused("run", number, beside);
 
     printf("zone   temperature   whole  boils\n");
-    for (uint8_t zone = 0; zone < control[KUJ_VLR]; zone++) {
-        printf("%4u", zone);
-        print_reading(elements, control, 0, zone, KUJ_F_FLOATING);
-        print_reading(elements, control, 3, zone, KUJ_LONGWORD);
-        printf("  %s\n", control[KUJ_VMR] >> zone & 1 ? "yes" : "no");
+    for (uint32_t zone = 0; zone < control.vlr; zone++) {
+        printf("%4" PRIu32, zone);
+        print_reading(elements, &control, 0, zone, KUJ_F_FLOATING);
+        print_reading(elements, &control, 3, zone, KUJ_LONGWORD);
+        printf("  %s\n", control.vmr >> zone & 1 ? "yes" : "no");
     }
-    print_control(control);
+    print_control(&control);
     return 0;
 }

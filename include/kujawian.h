@@ -24,16 +24,23 @@
  * After a number other than 0 nothing has changed but *beside. Where a call gives several numbers
  * they are named below in the order in which they are tested; the first that applies is given.
  *
- * The state is two arrays of the caller's:
+ * The state is the caller's, in two parts:
  *
  *   elements  1,024 numbers; element e of register r at r * 64 + e
- *   control   5 numbers: VLR, VMR, VCR, VAER, VPSR, in the order of the saved records 1,024 to 1,028.
+ *   control   struct kuj_control: VLR, VMR, VCR, VAER, VPSR, in the order of the saved records 1,024 to
+ *             1,028. It is five 64-bit numbers in that order, without padding: an array of five is the
+ *             same to every call, for a caller whose language has no such struct.
  *             Range: VLR and VCR 0 to 64; VMR any; VAER bits 0, 1, 2, 3, 5 and 16 to 31; VPSR bit 0
  *             (VEN) and bit 7 (AEX). Any other contents get 12, so a state is safe to hand in
  *             wherever it came from.
  *
- * A slice is a pointer followed by its length, counted in items. The pointer of an empty slice is not
- * null. Arrays, slices and results lent to one call do not overlap, unless all are const.
+ * C cuts an argument to its parameter's width and says nothing. So numbers that are tested are taken
+ * wide (a register, an element and a kind in 32 bits, a new VLR or VCR in 64), and nothing is cut before
+ * it is tested: 256 is no register 0 but gets 13, and 2^32 + 1 is no VLR 1 but gets 11.
+ *
+ * A slice is a pointer and then a length, counted in items; the pointer of an empty slice is never
+ * read, and may be NULL. Arrays, slices and results lent to one call do not overlap, unless all are
+ * const.
  *
  * A call keeps nothing behind: all it knows is what it is lent. Calls on different states may run at
  * the same time.
@@ -50,12 +57,17 @@ extern "C" {
 
 enum {
     KUJ_ELEMENTS = 1024,    /* length of elements */
-    KUJ_CONTROLS = 5,       /* length of control */
     KUJ_FILE_BYTES = 16464  /* length of a saved file: 1,029 records of 16 bytes */
 };
 
-/* Places in control. */
-enum { KUJ_VLR, KUJ_VMR, KUJ_VCR, KUJ_VAER, KUJ_VPSR };
+/* The control record. */
+struct kuj_control {
+    uint64_t vlr;   /* vector length, 0 to 64 */
+    uint64_t vmr;   /* mask; bit i is element i's */
+    uint64_t vcr;   /* count, 0 to 64 */
+    uint64_t vaer;  /* exceptions */
+    uint64_t vpsr;  /* status */
+};
 
 /* Kinds of a field, named by the caller of a reading. */
 enum { KUJ_F_FLOATING, KUJ_LONGWORD };
@@ -75,7 +87,7 @@ enum { KUJ_READ_BINARY64, KUJ_READ_LONGWORD, KUJ_READ_RESERVED };
  * 0: elements and control are those after the instruction, the window too for a store or scatter.
  * Nothing else of the window is written. Beside: 0.
  */
-uint32_t kuj_execute(uint64_t elements[1024], uint64_t control[5],
+uint32_t kuj_execute(uint64_t elements[1024], struct kuj_control *control,
                      uint8_t opcode, uint16_t cntrl, uint64_t scalar, uint32_t base, uint32_t stride,
                      uint8_t *window, size_t window_len, uint64_t origin,
                      uint64_t *beside);
@@ -88,24 +100,24 @@ uint32_t kuj_execute(uint64_t elements[1024], uint64_t control[5],
  * 0: elements and control are those after the last instruction; VEN and AEX change at the end, if an
  * exception was recorded. Beside: 0.
  */
-uint32_t kuj_run(uint64_t elements[1024], uint64_t control[5],
+uint32_t kuj_run(uint64_t elements[1024], struct kuj_control *control,
                  const uint8_t *opcodes, size_t opcodes_len,
                  const uint16_t *cntrls, size_t cntrls_len,
                  const uint64_t *scalars, size_t scalars_len,
                  uint64_t *beside);
 
 /*
- * The same queue by a list of its steps; it ends as if each were done on what the last one left. A
- * step is instruction position * 64 + element, for each element below VLR; an IOTA is one step, with
- * element 0, even at VLR 0. A list is permitted when it holds every step once and nothing else, and
- * each step comes after those that it must follow: steps of earlier instructions that touch the same
- * register element, mask bit or VCR, where one of the two writes it.
+ * The same queue by a list of its steps, each done on what the last one left. A step is instruction
+ * position * 64 + element, for each element below VLR; an IOTA is one step, with element 0, even at
+ * VLR 0. A list is permitted when it holds every step once and nothing else, and each step comes after
+ * those that it must follow: steps of earlier instructions that touch the same register element, mask
+ * bit or VCR, where one of the two writes it.
  *
  * As kuj_run; then 9 with the position of the first entry at fault beside it, or with the list's
  * length if only steps are missing.
  * 0: elements and control are what kuj_run leaves. Beside: 0.
  */
-uint32_t kuj_run_order(uint64_t elements[1024], uint64_t control[5],
+uint32_t kuj_run_order(uint64_t elements[1024], struct kuj_control *control,
                        const uint8_t *opcodes, size_t opcodes_len,
                        const uint16_t *cntrls, size_t cntrls_len,
                        const uint64_t *scalars, size_t scalars_len,
@@ -120,7 +132,7 @@ uint32_t kuj_run_order(uint64_t elements[1024], uint64_t control[5],
  * 12; then 10 if file_len is below 16,464, with the first record that has no room, file_len / 16.
  * 0: the first 16,464 bytes of file are the saved state, the rest is kept. Beside: 0.
  */
-uint32_t kuj_save(const uint64_t elements[1024], const uint64_t control[5],
+uint32_t kuj_save(const uint64_t elements[1024], const struct kuj_control *control,
                   uint8_t *file, size_t file_len,
                   uint64_t *beside);
 
@@ -131,7 +143,7 @@ uint32_t kuj_save(const uint64_t elements[1024], const uint64_t control[5],
  * not zero, or is extra (1,029).
  * 0: elements and control are the saved ones. Beside: 0.
  */
-uint32_t kuj_load(uint64_t elements[1024], uint64_t control[5],
+uint32_t kuj_load(uint64_t elements[1024], struct kuj_control *control,
                   const uint8_t *file, size_t file_len,
                   uint64_t *beside);
 
@@ -146,8 +158,8 @@ uint32_t kuj_load(uint64_t elements[1024], uint64_t control[5],
  *              KUJ_READ_RESERVED   *bits: the reserved operand's code, bits <3:0>
  * Beside: 0.
  */
-uint32_t kuj_reading(const uint64_t elements[1024], const uint64_t control[5],
-                     uint8_t reg, uint8_t element, uint8_t kind,
+uint32_t kuj_reading(const uint64_t elements[1024], const struct kuj_control *control,
+                     uint32_t reg, uint32_t element, uint32_t kind,
                      uint64_t *kind_read, uint64_t *bits,
                      uint64_t *beside);
 
@@ -158,31 +170,33 @@ uint32_t kuj_reading(const uint64_t elements[1024], const uint64_t control[5],
  *
  * 12; then 3, but for VAER and VPSR, which are read while the processor is disabled too.
  */
-uint32_t kuj_read_vlr(const uint64_t control[5], uint64_t *beside);
-uint32_t kuj_read_vcr(const uint64_t control[5], uint64_t *beside);
-uint32_t kuj_read_vmr_low(const uint64_t control[5], uint64_t *beside);
-uint32_t kuj_read_vmr_high(const uint64_t control[5], uint64_t *beside);
-uint32_t kuj_read_vaer(const uint64_t control[5], uint64_t *beside);
-uint32_t kuj_read_vpsr(const uint64_t control[5], uint64_t *beside);
+uint32_t kuj_read_vlr(const struct kuj_control *control, uint64_t *beside);
+uint32_t kuj_read_vcr(const struct kuj_control *control, uint64_t *beside);
+uint32_t kuj_read_vmr_low(const struct kuj_control *control, uint64_t *beside);
+uint32_t kuj_read_vmr_high(const struct kuj_control *control, uint64_t *beside);
+uint32_t kuj_read_vaer(const struct kuj_control *control, uint64_t *beside);
+uint32_t kuj_read_vpsr(const struct kuj_control *control, uint64_t *beside);
 
 /*
- * Each writes one number and changes no other; a write of one half of VMR keeps the other half.
+ * Each writes one number and changes no other; a write of one half of VMR keeps the other half. A write
+ * that is refused stores nothing.
  *
- * 12, 3; VLR and VCR then 11 for a value above 64. 0: control is altered. Beside: 0.
+ * 12, 3; VLR and VCR then 11 for a value above 64. 0: control is altered where it stands. Beside: 0.
  */
-uint32_t kuj_write_vlr(uint64_t control[5], uint32_t value, uint64_t *beside);
-uint32_t kuj_write_vcr(uint64_t control[5], uint32_t value, uint64_t *beside);
-uint32_t kuj_write_vmr_low(uint64_t control[5], uint32_t value, uint64_t *beside);
-uint32_t kuj_write_vmr_high(uint64_t control[5], uint32_t value, uint64_t *beside);
+uint32_t kuj_write_vlr(struct kuj_control *control, uint64_t value, uint64_t *beside);
+uint32_t kuj_write_vcr(struct kuj_control *control, uint64_t value, uint64_t *beside);
+uint32_t kuj_write_vmr_low(struct kuj_control *control, uint32_t value, uint64_t *beside);
+uint32_t kuj_write_vmr_high(struct kuj_control *control, uint32_t value, uint64_t *beside);
 
 /*
- * Writes VPSR; never refused as disabled, for this is how the processor is enabled.
+ * Writes VPSR; never refused as disabled, for this is how the processor is enabled. VLR, VMR and VCR
+ * keep their contents, and a write that is refused stores nothing.
  *
  * 12; then 11 for <3:0> other than 0, 1, 2, 3, 4, 8, 9, or a one in <4>, <23:8> or <30:26>.
  * 0: a one in bit 1 has cleared VPSR and VAER, a one in bit 7 has cleared AEX and VAER, and VEN is
  * bit 0. Bits 2, 3, 5, 6, 24, 25 and 31 have no effect. Beside: 0.
  */
-uint32_t kuj_write_vpsr(uint64_t control[5], uint32_t value, uint64_t *beside);
+uint32_t kuj_write_vpsr(struct kuj_control *control, uint32_t value, uint64_t *beside);
 
 #ifdef __cplusplus
 }

@@ -6,25 +6,24 @@
 
 #include "kujawian.h"
 
-static uint64_t elements[1024], control[5];
+static uint64_t elements[1024];
+static struct kuj_control control;
 static uint8_t window[16];
 
 // VEN 1, VLR as named, all else zero but for V1 = 1, 2, .. and V2 = 10, 20, ..
 static void start(uint64_t vlr) {
     memset(elements, 0, sizeof elements);
-    memset(control, 0, sizeof control);
     memset(window, 0, sizeof window);
     for (int i = 0; i < 64; i++) {
         elements[64 + i] = (uint64_t)i + 1;
         elements[128 + i] = ((uint64_t)i + 1) * 10;
     }
-    control[0] = vlr;
-    control[4] = 1;
+    control = (struct kuj_control){ .vlr = vlr, .vpsr = 1 };
 }
 
 static void show(const char *name, uint32_t number, uint64_t beside) {
     printf("%s: %" PRIu32 " %" PRIu64 ", V3[0] %" PRIu64 ", V3[1] %" PRIu64 ", V3[63] %" PRIu64 ", VLR %" PRIu64 ", window", name, number, beside,
-           elements[192], elements[193], elements[255], control[0]);
+           elements[192], elements[193], elements[255], control.vlr);
     for (size_t i = 0; i < sizeof window; i++) printf(" %02X", window[i]);
     printf("\n");
 }
@@ -33,7 +32,7 @@ static void show(const char *name, uint32_t number, uint64_t beside) {
 static void add(const char *name, uint64_t vlr) {
     uint64_t beside = 99;
     start(vlr);
-    uint32_t number = kuj_execute(elements, control, 0x80, 0x2123, 0, 0, 0, window, 0, 0, &beside);
+    uint32_t number = kuj_execute(elements, &control, 0x80, 0x2123, 0, 0, 0, window, 0, 0, &beside);
     show(name, number, beside);
 }
 
@@ -41,7 +40,7 @@ static void add(const char *name, uint64_t vlr) {
 static void store(const char *name, uint8_t opcode, uint64_t vlr, uint32_t base, uint32_t stride, size_t length) {
     uint64_t beside = 99;
     start(vlr);
-    uint32_t number = kuj_execute(elements, control, opcode, 0x0002, 0, base, stride, window, length, 0x100, &beside);
+    uint32_t number = kuj_execute(elements, &control, opcode, 0x0002, 0, base, stride, window, length, 0x100, &beside);
     show(name, number, beside);
 }
 
@@ -52,13 +51,13 @@ int main(void) {
     add("VLR 64", 64);
     add("VLR 65 in a state", 65);
     start(7);
-    uint32_t number = kuj_write_vlr(control, 65, &beside);
+    uint32_t number = kuj_write_vlr(&control, 65, &beside);
     show("write of 65 to VLR", number, beside);
     start(7);
-    number = kuj_write_vcr(control, 65, &beside);
+    number = kuj_write_vcr(&control, 65, &beside);
     show("write of 65 to VCR", number, beside);
     start(7);
-    number = kuj_write_vlr(control, 64, &beside);
+    number = kuj_write_vlr(&control, 64, &beside);
     show("write of 64 to VLR", number, beside);
     store("empty window, VLR 0", 0x9C, 0, 0x100, 4, 0);
     store("empty window, VLR 1", 0x9C, 1, 0x100, 4, 0);

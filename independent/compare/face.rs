@@ -5,8 +5,8 @@
 //! Each call is put `cases` times (20,000 if not said; lists a quarter as often). Number, what stands
 //! beside it, all elements, all controls and all memory are compared, guard bytes around every lent
 //! slice too. A queue that is done is put once more, to what it left. The exit status is 1 if anything
-//! differed, or if some number that a call can give, some accepted opcode done, or some kind of list, never
-//! came up.
+//! differed, or if some number that a call can give, some accepted opcode done, some kind of list, or some number
+//! that only a cut would let through, never came up.
 
 use independent::generate::*;
 use independent::machine::*;
@@ -17,6 +17,7 @@ use independent::vectors::{check, directory, instruction_of, Arithmetic, Result3
 use std::collections::BTreeMap;
 use std::process::ExitCode;
 
+// The control record goes as five numbers: to a call it is the same as the header's struct.
 extern "C" {
     fn kuj_execute(
         elements: *mut u64,
@@ -60,9 +61,9 @@ extern "C" {
     fn kuj_reading(
         elements: *const u64,
         control: *const u64,
-        reg: u8,
-        element: u8,
-        kind: u8,
+        reg: u32,
+        element: u32,
+        kind: u32,
         kind_read: *mut u64,
         bits: *mut u64,
         beside: *mut u64,
@@ -73,8 +74,8 @@ extern "C" {
     fn kuj_read_vmr_high(control: *const u64, beside: *mut u64) -> u32;
     fn kuj_read_vaer(control: *const u64, beside: *mut u64) -> u32;
     fn kuj_read_vpsr(control: *const u64, beside: *mut u64) -> u32;
-    fn kuj_write_vlr(control: *mut u64, value: u32, beside: *mut u64) -> u32;
-    fn kuj_write_vcr(control: *mut u64, value: u32, beside: *mut u64) -> u32;
+    fn kuj_write_vlr(control: *mut u64, value: u64, beside: *mut u64) -> u32;
+    fn kuj_write_vcr(control: *mut u64, value: u64, beside: *mut u64) -> u32;
     fn kuj_write_vmr_low(control: *mut u64, value: u32, beside: *mut u64) -> u32;
     fn kuj_write_vmr_high(control: *mut u64, value: u32, beside: *mut u64) -> u32;
     fn kuj_write_vpsr(control: *mut u64, value: u32, beside: *mut u64) -> u32;
@@ -94,8 +95,11 @@ impl<T: Copy + PartialEq> Lent<T> {
         Lent { cells: [&[guard; GUARD][..], cells, &[guard; GUARD][..]].concat(), guard }
     }
 
-    /// A pointer that is not null, also to nothing.
+    /// Null for an empty slice: its pointer is never read.
     fn pointer(&mut self) -> *mut T {
+        if self.cells.len() == 2 * GUARD {
+            return std::ptr::null_mut();
+        }
         self.cells[GUARD..].as_mut_ptr()
     }
 
@@ -153,6 +157,8 @@ struct Report {
     done: BTreeMap<u8, u64>,
     /// How often each kind of list came up.
     lists: BTreeMap<&'static str, u64>,
+    /// How often each number was refused that would be accepted if it were cut.
+    wide: BTreeMap<&'static str, u64>,
     differences: u64,
 }
 
@@ -425,8 +431,7 @@ fn compare_readings(random: &mut Random, cases: u64, report: &mut Report) {
         }
         let mut lent = LentState::new(&state);
         for _ in 0..FIELDS {
-            let mut field =
-                |limit: u64| if random.once_in(24) { random.bits() as u8 } else { random.below(limit) as u8 };
+            let mut field = |limit: u64| field_number(random, limit);
             let (register, element, kind) = (field(16), field(64), field(2));
             let expected = reading(&state, register, element, kind);
             let (mut kind_read, mut bits) = (UNWRITTEN, UNWRITTEN);
@@ -459,12 +464,27 @@ fn compare_readings(random: &mut Random, cases: u64, report: &mut Report) {
             if expected.is_ok() {
                 *report.numbers.get_mut("reading").unwrap().entry(100 + read.0 as u32).or_default() += 1;
             }
+            let cut = |number: u32| number % 256;
+            if state.in_range() && cut(register) < 16 && cut(element) < 64 && cut(kind) < 2 {
+                for (name, number) in [("register", register), ("element", element), ("kind", kind)] {
+                    if number > 255 {
+                        *report.wide.entry(name).or_default() += 1;
+                    }
+                }
+            }
         }
     }
 }
 
 type ReadCall = unsafe extern "C" fn(*const u64, *mut u64) -> u32;
-type WriteCall = unsafe extern "C" fn(*mut u64, u32, *mut u64) -> u32;
+
+#[derive(Clone, Copy)]
+enum WriteCall {
+    /// VLR and VCR.
+    Length(unsafe extern "C" fn(*mut u64, u64, *mut u64) -> u32),
+    /// The halves of VMR, and VPSR.
+    Word(unsafe extern "C" fn(*mut u64, u32, *mut u64) -> u32),
+}
 
 const READS: [(&str, Control, ReadCall); 6] = [
     ("read_vlr", Control::Vlr, kuj_read_vlr),
@@ -476,11 +496,11 @@ const READS: [(&str, Control, ReadCall); 6] = [
 ];
 
 const WRITES: [(&str, Control, WriteCall); 5] = [
-    ("write_vlr", Control::Vlr, kuj_write_vlr),
-    ("write_vcr", Control::Vcr, kuj_write_vcr),
-    ("write_vmr_low", Control::VmrLow, kuj_write_vmr_low),
-    ("write_vmr_high", Control::VmrHigh, kuj_write_vmr_high),
-    ("write_vpsr", Control::Vpsr, kuj_write_vpsr),
+    ("write_vlr", Control::Vlr, WriteCall::Length(kuj_write_vlr)),
+    ("write_vcr", Control::Vcr, WriteCall::Length(kuj_write_vcr)),
+    ("write_vmr_low", Control::VmrLow, WriteCall::Word(kuj_write_vmr_low)),
+    ("write_vmr_high", Control::VmrHigh, WriteCall::Word(kuj_write_vmr_high)),
+    ("write_vpsr", Control::Vpsr, WriteCall::Word(kuj_write_vpsr)),
 ];
 
 fn compare_control_moves(random: &mut Random, cases: u64, report: &mut Report) {
@@ -501,14 +521,26 @@ fn compare_control_moves(random: &mut Random, cases: u64, report: &mut Report) {
             report.case(name, (number, lent.beside), expected, rest_same, || controls_text(&state));
         }
         for (name, control, call) in WRITES {
-            let value = control_value(random);
+            let word = control_value(random);
+            let value = if matches!(call, WriteCall::Length(_)) { length_value(random) } else { word.into() };
             let expected = write_control(&state, control, value);
             let mut lent = LentState::new(&state);
             // SAFETY: the control has five numbers.
-            let number = unsafe { call(lent.control.pointer(), value, &mut lent.beside) };
+            let number = unsafe {
+                match call {
+                    WriteCall::Length(put) => put(lent.control.pointer(), value, &mut lent.beside),
+                    WriteCall::Word(put) => put(lent.control.pointer(), word, &mut lent.beside),
+                }
+            };
+            if expected.as_ref().is_err_and(|refusal| refusal.number == CONTROL_VALUE)
+                && value >> 32 != 0
+                && value as u32 <= 64
+            {
+                *report.wide.entry(name).or_default() += 1;
+            }
             let rest_same = lent.control.is_now(&control_of(expected.as_ref().unwrap_or(&state)));
             report.case(name, (number, lent.beside), answer(&expected, |_| 0), rest_same, || {
-                format!("value {value:08X}; {}", controls_text(&state))
+                format!("value {value:X}; {}", controls_text(&state))
             });
         }
     }
@@ -672,6 +704,13 @@ fn main() -> ExitCode {
     for kind in KINDS_OF_LISTS {
         let count = report.lists.get(kind).copied().unwrap_or(0);
         println!("lists {kind}: {count}");
+        if count == 0 {
+            missing += 1;
+        }
+    }
+    for number in ["register", "element", "kind", "write_vlr", "write_vcr"] {
+        let count = report.wide.get(number).copied().unwrap_or(0);
+        println!("{number} refused that would be accepted if it were cut: {count}");
         if count == 0 {
             missing += 1;
         }

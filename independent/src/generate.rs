@@ -222,7 +222,25 @@ pub fn state(random: &mut Random) -> State {
     state
 }
 
-/// VPSR values, register values and mask halves for the control moves.
+/// Values for VLR and VCR: about 64, and wide ones, some of which would be in range if they were cut to 8, 16 or 32 bits.
+pub fn length_value(random: &mut Random) -> u64 {
+    match random.below(4) {
+        0 | 1 => random.between(0, 70),
+        2 => random.bits() << random.pick(&[8, 16, 32]) | random.between(0, 64),
+        _ => random.bits() >> random.below(64),
+    }
+}
+
+/// A register, element or kind, below a limit; now and then any, some of which would be below it if cut to 8 or 16 bits.
+pub fn field_number(random: &mut Random, limit: u64) -> u32 {
+    match random.below(48) {
+        0 => random.bits() as u32 >> random.below(32),
+        1 => (random.bits() as u32) << random.pick(&[8, 16]) | random.below(limit) as u32,
+        _ => random.below(limit) as u32,
+    }
+}
+
+/// VPSR values and mask halves for the control moves.
 pub fn control_value(random: &mut Random) -> u32 {
     match random.below(6) {
         0 => random.between(0, 70) as u32,

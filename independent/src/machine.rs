@@ -483,8 +483,9 @@ pub fn read_control(state: &State, control: Control) -> Result<u64, Refusal> {
     })
 }
 
-/// A write: 12, 3, 11; of VPSR 12, 11. VAER has no write.
-pub fn write_control(state: &State, control: Control, value: u32) -> Result<State, Refusal> {
+/// A write: 12, 3, 11; of VPSR 12, 11. VAER has no write. VLR and VCR take any 64 bits, the rest any 32.
+pub fn write_control(state: &State, control: Control, value: u64) -> Result<State, Refusal> {
+    assert!(matches!(control, Control::Vlr | Control::Vcr) || value < 1 << 32, "mask halves and VPSR have 32 bits");
     if !state.in_range() {
         return refuse(STATE_OUT_OF_RANGE, 0);
     }
@@ -492,14 +493,13 @@ pub fn write_control(state: &State, control: Control, value: u32) -> Result<Stat
         return refuse(DISABLED, 0);
     }
     let mut state = state.clone();
-    let wide = u64::from(value);
     match control {
         Control::Vlr if value > 64 => return refuse(CONTROL_VALUE, 0),
-        Control::Vlr => state.vlr = wide,
+        Control::Vlr => state.vlr = value,
         Control::Vcr if value > 64 => return refuse(CONTROL_VALUE, 0),
-        Control::Vcr => state.vcr = wide,
-        Control::VmrLow => state.vmr = state.vmr >> 32 << 32 | wide,
-        Control::VmrHigh => state.vmr = (wide << 32) | state.vmr % (1 << 32),
+        Control::Vcr => state.vcr = value,
+        Control::VmrLow => state.vmr = state.vmr >> 32 << 32 | value,
+        Control::VmrHigh => state.vmr = (value << 32) | state.vmr % (1 << 32),
         Control::Vaer => panic!("VAER has no write call"),
         Control::Vpsr => {
             let bit = |place: u32| value >> place & 1 == 1;

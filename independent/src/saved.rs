@@ -82,14 +82,14 @@ pub enum Reading {
 }
 
 /// A reading: 12, 13.
-pub fn reading(state: &State, register: u8, element: u8, kind: u8) -> Result<Reading, Refusal> {
+pub fn reading(state: &State, register: u32, element: u32, kind: u32) -> Result<Reading, Refusal> {
     if !state.in_range() {
         return refuse(STATE_OUT_OF_RANGE, 0);
     }
     if register > 15 || element > 63 || kind > 1 {
         return refuse(NO_SUCH_FIELD, 0);
     }
-    let low = state.registers[usize::from(register)][usize::from(element)] as u32;
+    let low = state.registers[register as usize][element as usize] as u32;
     Ok(if kind == 1 {
         Reading::Longword(low as i32)
     } else {

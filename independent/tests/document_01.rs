@@ -144,7 +144,9 @@ fn vlr_0_1_64() {
 #[test]
 fn write_of_65() {
     for control in [Control::Vlr, Control::Vcr] {
-        assert_eq!(write_control(&State::enabled(), control, 65), Err(refused(11, 0)));
+        for value in [65, 256, 1 << 32, (1 << 32) + 1, u64::MAX] {
+            assert_eq!(write_control(&State::enabled(), control, value), Err(refused(11, 0)));
+        }
         assert_eq!(write_control(&State::zero(), control, 65), Err(refused(3, 0)));
         let after = write_control(&State::enabled(), control, 64).unwrap();
         assert_eq!(read_control(&after, control), Ok(64));
@@ -388,7 +390,7 @@ fn readings() {
     assert_eq!(reading(&state, 2, 6, 1), Ok(Reading::Longword(-0x7FFF_FFFF)));
     assert_eq!(reading(&state, 2, 6, 0), Ok(Reading::Binary64(0)));
     assert_eq!(reading(&state, 2, 7, 0), Ok(Reading::Reserved(4)));
-    for (register, element, kind) in [(16, 0, 0), (0, 64, 0), (0, 0, 2), (255, 255, 255)] {
+    for (register, element, kind) in [(16, 0, 0), (0, 64, 0), (0, 0, 2), (256, 0, 0), (0, 256, 0), (0, 0, 256)] {
         assert_eq!(reading(&state, register, element, kind), Err(refused(13, 0)));
     }
     let bad = State { vpsr: 2, ..state };

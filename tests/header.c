@@ -1,0 +1,540 @@
+// Every call of include/kujawian.h, put from C with arguments that tell its parameters apart: were two of them exchanged, in the
+// header or in the library, something below would come out otherwise. (The lengths of opcodes, cntrls and scalars alone may be
+// exchanged among themselves: unequal ones get 8 whichever is which.)
+// What is expected was worked out by hand from document 01, and is said beside each case. tests/header.sh runs it.
+#include <inttypes.h>
+#include <stdio.h>
+#include <string.h>
+
+#include "kujawian.h"
+// Made from the header: its calls with their arguments by name, and a place and a name for each.
+#include "by_name.h"
+
+_Static_assert(sizeof(struct kuj_control) == 40, "five numbers of 64 bits, without padding");
+_Static_assert(offsetof(struct kuj_control, vlr) == 0, "VLR is the first");
+_Static_assert(offsetof(struct kuj_control, vmr) == 8, "VMR is the second");
+_Static_assert(offsetof(struct kuj_control, vcr) == 16, "VCR is the third");
+_Static_assert(offsetof(struct kuj_control, vaer) == 24, "VAER is the fourth");
+_Static_assert(offsetof(struct kuj_control, vpsr) == 32, "VPSR is the fifth");
+
+enum { VEN = 0x01, AEX = 0x80, WINDOW = 8192, FILE_ROOM = KUJ_FILE_BYTES + 16 };
+static const uint64_t UNWRITTEN = 0xDEADBEEF0BADF00D;
+
+// All that is lent to a call. A case sets `is`, copies it to `want`, and puts into `want` what has to come of it.
+static struct lent {
+    uint64_t elements[KUJ_ELEMENTS];
+    struct kuj_control control;
+    uint8_t window[WINDOW], file[FILE_ROOM];
+    uint64_t beside, kind_read, bits;
+} is, want;
+
+static int times[CALLS], differences, differences_before;
+
+#define CALL(NAME, ...) (times[of_##NAME]++, by_name_##NAME((struct args_##NAME){ __VA_ARGS__ }))
+// Element e of register r.
+#define V(LENT, R, E) (LENT).elements[(R) * 64 + (E)]
+
+// All elements zero, VLR as named, VEN 1. Mask, VCR 3 and VAER's bit of V0 are for a control taken in another order, which would be
+// out of range or have another VLR. The bytes of window and file count up.
+static void start(uint64_t vlr) {
+    memset(&is, 0, sizeof is);
+    is.control = (struct kuj_control){ .vlr = vlr, .vmr = 0x8000000000000001, .vcr = 3, .vaer = 0x00010000, .vpsr = VEN };
+    for (size_t k = 0; k < sizeof is.window; k++) is.window[k] = (uint8_t)k;
+    for (size_t k = 0; k < sizeof is.file; k++) is.file[k] = (uint8_t)(k + 1);
+    is.beside = is.kind_read = is.bits = UNWRITTEN;
+}
+
+static void expect(const char *call, const char *what, uint32_t number, uint32_t number_wanted, uint64_t beside_wanted) {
+    want.beside = beside_wanted;
+    if (number == number_wanted && memcmp(&is, &want, sizeof is) == 0) return;
+    differences++;
+    printf("DIFFERS: %s, %s: %" PRIu32 " beside it %" PRIu64 ", expected %" PRIu32 " beside it %" PRIu64, call, what, number,
+           is.beside, number_wanted, beside_wanted);
+    if (memcmp(is.elements, want.elements, sizeof is.elements) != 0) printf("; elements differ");
+    if (memcmp(&is.control, &want.control, sizeof is.control) != 0) printf("; control differs");
+    if (memcmp(is.window, want.window, sizeof is.window) != 0) printf("; the window differs");
+    if (memcmp(is.file, want.file, sizeof is.file) != 0) printf("; the file differs");
+    if (is.kind_read != want.kind_read) printf("; kind_read %" PRIu64 ", expected %" PRIu64, is.kind_read, want.kind_read);
+    if (is.bits != want.bits) printf("; bits %" PRIX64 ", expected %" PRIX64, is.bits, want.bits);
+    printf("\n");
+}
+
+// The line of a call, when it has been put for the last time.
+static void end(int call) {
+    printf("%s: put %d times, %s\n", names[call], times[call], differences == differences_before ? "same" : "differs");
+    differences_before = differences;
+}
+
+// ---- kuj_execute ----
+
+#define EXECUTE(OPCODE, CNTRL, SCALAR, BASE, STRIDE, WINDOW_AT, LENGTH, ORIGIN) \
+    CALL(kuj_execute, .elements = is.elements, .control = &is.control, .opcode = OPCODE, .cntrl = CNTRL, .scalar = SCALAR, \
+         .base = BASE, .stride = STRIDE, .window = WINDOW_AT, .window_len = LENGTH, .origin = ORIGIN, .beside = &is.beside)
+
+static void execute(void) {
+    const char *call = "kuj_execute";
+    uint32_t number;
+
+    // Example 1: 81, 2025, scalar 1, VLR 2, V2 = 7FFFFFFF, 4, V5 all 9: V5 = 80000000, 5, then 9; VAER 00200020; VPSR 00000080.
+    // VAER's bit of V0 stays beside them. What only memory opcodes read holds anything.
+    start(2);
+    V(is, 2, 0) = 0x7FFFFFFF;
+    V(is, 2, 1) = 4;
+    for (int e = 0; e < 64; e++) V(is, 5, e) = 9;
+    want = is;
+    V(want, 5, 0) = 0x80000000;
+    V(want, 5, 1) = 5;
+    want.control.vaer = 0x00210020;
+    want.control.vpsr = AEX;
+    number = EXECUTE(0x81, 0x2025, 1, 3, 7, is.window, 16, 0x77);
+    expect(call, "example 1", number, 0, 0);
+
+    // Store L of V2 at 1008 + 8i; the window is 1000 to 1017. V2[0] goes to bytes 8 to 11, V2[1] to bytes 16 to 19, bits <31:0>
+    // with the lowest byte first. The scalar holds anything.
+    start(2);
+    V(is, 2, 0) = 0xAAAAAAAA11223344;
+    V(is, 2, 1) = 0xBBBBBBBB55667788;
+    want = is;
+    memcpy(want.window + 8, "\x44\x33\x22\x11", 4);
+    memcpy(want.window + 16, "\x88\x77\x66\x55", 4);
+    number = EXECUTE(0x9C, 0x0002, 0x30, 0x1008, 8, is.window, 24, 0x1000);
+    expect(call, "store", number, 0, 0);
+
+    // The same at 1010 + 8i: element 1 would stand at 1018, the window's end. Nothing is moved.
+    start(2);
+    want = is;
+    number = EXECUTE(0x9C, 0x0002, 0x30, 0x1010, 8, is.window, 24, 0x1000);
+    expect(call, "store, element 1 outside", number, 6, 1);
+
+    // Load L, V3 = the longwords at 1004 and 1000: stride -4. Bytes 4 to 7 are 04 05 06 07; <63:32> stay.
+    start(2);
+    V(is, 3, 0) = 0x1111111122222222;
+    want = is;
+    V(want, 3, 0) = 0x1111111107060504;
+    V(want, 3, 1) = 0x0000000003020100;
+    number = EXECUTE(0x34, 0x0003, 0x30, 0x1004, (uint32_t)-4, is.window, 24, 0x1000);
+    expect(call, "load", number, 0, 0);
+
+    // An empty window is NULL: for an operate opcode, for a memory opcode that moves nothing, for one whose element 0 is outside.
+    start(1);
+    V(is, 1, 0) = 5;
+    V(is, 2, 0) = 6;
+    want = is;
+    V(want, 3, 0) = 11;
+    number = EXECUTE(0x80, 0x0123, 0, 0, 0, NULL, 0, 0);
+    expect(call, "add, window NULL", number, 0, 0);
+    start(0);
+    want = is;
+    number = EXECUTE(0x34, 0x0003, 0, 0x1000, 4, NULL, 0, 0x1000);
+    expect(call, "load at VLR 0, window NULL", number, 0, 0);
+    start(1);
+    want = is;
+    number = EXECUTE(0x34, 0x0003, 0, 0x1000, 4, NULL, 0, 0x1000);
+    expect(call, "load at VLR 1, window NULL", number, 6, 0);
+
+    // VLR 2^32 + 1 in the record is out of range.
+    start(0x100000001);
+    want = is;
+    number = EXECUTE(0x80, 0x0123, 0, 0, 0, is.window, 16, 0);
+    expect(call, "VLR 2^32 + 1", number, 12, 0);
+    end(of_kuj_execute);
+}
+
+// ---- kuj_run, kuj_run_order ----
+
+// Two longword instructions with scalars: V2 = 100 + V1, then V3 = 3 * V2. Of each array only the first two are lent, if no other
+// length is said; the rest would get 1 (opcode FF).
+static const uint8_t opcodes[] = { 0x81, 0xA1, 0xFF, 0xFF };
+static const uint16_t cntrls[] = { 0x0012, 0x0023, 0xFFFF, 0xFFFF };
+static const uint64_t scalars[] = { 100, 3, 1000, 1001 };
+
+// V1 = 5, 7, so V2 becomes 105, 107 and V3 315, 321, as far as VLR goes.
+static void start_queue(uint64_t vlr) {
+    start(vlr);
+    V(is, 1, 0) = 5;
+    V(is, 1, 1) = 7;
+    want = is;
+    if (vlr > 0) V(want, 2, 0) = 105, V(want, 3, 0) = 315;
+    if (vlr > 1) V(want, 2, 1) = 107, V(want, 3, 1) = 321;
+}
+
+#define RUN(OPCODES, N, CNTRLS, M, SCALARS, L) \
+    CALL(kuj_run, .elements = is.elements, .control = &is.control, .opcodes = OPCODES, .opcodes_len = N, .cntrls = CNTRLS, \
+         .cntrls_len = M, .scalars = SCALARS, .scalars_len = L, .beside = &is.beside)
+
+static void run(void) {
+    const char *call = "kuj_run";
+    uint32_t number;
+
+    start_queue(2);
+    number = RUN(opcodes, 2, cntrls, 2, scalars, 2);
+    expect(call, "two instructions", number, 0, 0);
+
+    // FF is reserved, at position 2.
+    start_queue(2);
+    want = is;
+    number = RUN(opcodes, 3, cntrls, 3, scalars, 3);
+    expect(call, "a reserved opcode", number, 1, 2);
+
+    // Each part in turn is the one of another length.
+    start_queue(2);
+    want = is;
+    number = RUN(opcodes, 1, cntrls, 2, scalars, 2);
+    expect(call, "fewer opcodes", number, 8, 0);
+    is.beside = UNWRITTEN;
+    number = RUN(opcodes, 2, cntrls, 1, scalars, 2);
+    expect(call, "fewer control words", number, 8, 0);
+    is.beside = UNWRITTEN;
+    number = RUN(opcodes, 2, cntrls, 2, scalars, 1);
+    expect(call, "fewer scalars", number, 8, 0);
+
+    // An empty part is NULL: alone it is of another length; all three are the empty queue, which is done.
+    start_queue(2);
+    want = is;
+    number = RUN(NULL, 0, cntrls, 2, scalars, 2);
+    expect(call, "opcodes NULL", number, 8, 0);
+    is.beside = UNWRITTEN;
+    number = RUN(opcodes, 2, NULL, 0, scalars, 2);
+    expect(call, "control words NULL", number, 8, 0);
+    is.beside = UNWRITTEN;
+    number = RUN(opcodes, 2, cntrls, 2, NULL, 0);
+    expect(call, "scalars NULL", number, 8, 0);
+    is.beside = UNWRITTEN;
+    number = RUN(NULL, 0, NULL, 0, NULL, 0);
+    expect(call, "all NULL", number, 0, 0);
+    end(of_kuj_run);
+}
+
+#define RUN_ORDER(OPCODES, N, CNTRLS, M, SCALARS, L, ORDER, STEPS) \
+    CALL(kuj_run_order, .elements = is.elements, .control = &is.control, .opcodes = OPCODES, .opcodes_len = N, \
+         .cntrls = CNTRLS, .cntrls_len = M, .scalars = SCALARS, .scalars_len = L, .order = ORDER, .order_len = STEPS, \
+         .beside = &is.beside)
+
+static void run_order(void) {
+    const char *call = "kuj_run_order";
+    // At VLR 2 the steps are 0, 1 (V2 = 100 + V1) and 64, 65 (V3 = 3 * V2); 64 must follow 0, and 65 must follow 1.
+    static const uint64_t falling[] = { 1, 0, 65, 64 }, early[] = { 0, 65, 1, 64 }, two[] = { 0, 64 };
+    uint32_t number;
+
+    start_queue(2);
+    number = RUN_ORDER(opcodes, 2, cntrls, 2, scalars, 2, falling, 4);
+    expect(call, "four steps", number, 0, 0);
+
+    // At VLR 1 there are two steps to two instructions, so that all four lengths are equal.
+    start_queue(1);
+    number = RUN_ORDER(opcodes, 2, cntrls, 2, scalars, 2, two, 2);
+    expect(call, "two steps", number, 0, 0);
+
+    // 65 comes at list position 1, before 1.
+    start_queue(2);
+    want = is;
+    number = RUN_ORDER(opcodes, 2, cntrls, 2, scalars, 2, early, 4);
+    expect(call, "a step before the one it must follow", number, 9, 1);
+
+    // 64 is missing: the list's length stands beside.
+    is.beside = UNWRITTEN;
+    number = RUN_ORDER(opcodes, 2, cntrls, 2, scalars, 2, falling, 3);
+    expect(call, "a step missing", number, 9, 3);
+
+    // FF is reserved, at position 2 of the queue: that goes before the list.
+    is.beside = UNWRITTEN;
+    number = RUN_ORDER(opcodes, 3, cntrls, 3, scalars, 3, early, 4);
+    expect(call, "a reserved opcode", number, 1, 2);
+
+    // An empty part is NULL. With the list alone: all steps are missing; at VLR 0 there are none, and it is done.
+    is.beside = UNWRITTEN;
+    number = RUN_ORDER(NULL, 0, cntrls, 2, scalars, 2, falling, 4);
+    expect(call, "opcodes NULL", number, 8, 0);
+    is.beside = UNWRITTEN;
+    number = RUN_ORDER(opcodes, 2, NULL, 0, scalars, 2, falling, 4);
+    expect(call, "control words NULL", number, 8, 0);
+    is.beside = UNWRITTEN;
+    number = RUN_ORDER(opcodes, 2, cntrls, 2, NULL, 0, falling, 4);
+    expect(call, "scalars NULL", number, 8, 0);
+    is.beside = UNWRITTEN;
+    number = RUN_ORDER(opcodes, 2, cntrls, 2, scalars, 2, NULL, 0);
+    expect(call, "list NULL", number, 9, 0);
+    start_queue(0);
+    number = RUN_ORDER(opcodes, 2, cntrls, 2, scalars, 2, NULL, 0);
+    expect(call, "list NULL at VLR 0", number, 0, 0);
+    start_queue(2);
+    want = is;
+    number = RUN_ORDER(NULL, 0, NULL, 0, NULL, 0, falling, 4);
+    expect(call, "a list for an empty queue", number, 9, 0);
+    is.beside = UNWRITTEN;
+    number = RUN_ORDER(NULL, 0, NULL, 0, NULL, 0, NULL, 0);
+    expect(call, "all NULL", number, 0, 0);
+    end(of_kuj_run_order);
+}
+
+// ---- kuj_save, kuj_load ----
+
+static const uint64_t saved_elements[KUJ_ELEMENTS] = { [5 * 64 + 3] = 7, [15 * 64 + 63] = 0x0123456789ABCDEF };
+static const struct kuj_control saved_control = { .vlr = 4, .vmr = 0x8000000000000001, .vcr = 3, .vaer = 0x00200020, .vpsr = 0x81 };
+
+// A record: its number in 2 bytes, 6 zero bytes, contents in 8, the lowest byte first.
+static void put_record(uint8_t *file, unsigned record, uint64_t contents) {
+    uint8_t *at = file + record * 16;
+    memset(at, 0, 8);
+    at[0] = (uint8_t)record;
+    at[1] = (uint8_t)(record >> 8);
+    for (int k = 0; k < 8; k++) at[8 + k] = (uint8_t)(contents >> 8 * k);
+}
+
+// The file of that state: V5[3] is record 5 * 64 + 3 = 323 and V15[63] record 1,023; then VLR, VMR, VCR, VAER, VPSR.
+static void put_file(uint8_t *file) {
+    for (unsigned record = 0; record < 1024; record++) put_record(file, record, 0);
+    put_record(file, 323, 7);
+    put_record(file, 1023, 0x0123456789ABCDEF);
+    put_record(file, 1024, 4);
+    put_record(file, 1025, 0x8000000000000001);
+    put_record(file, 1026, 3);
+    put_record(file, 1027, 0x00200020);
+    put_record(file, 1028, 0x81);
+}
+
+#define SAVE(CONTROL, FILE_AT, LENGTH) \
+    CALL(kuj_save, .elements = saved_elements, .control = CONTROL, .file = FILE_AT, .file_len = LENGTH, .beside = &is.beside)
+
+static void save(void) {
+    const char *call = "kuj_save";
+    uint32_t number;
+
+    // The 16 bytes beyond the file stay.
+    start(0);
+    want = is;
+    put_file(want.file);
+    number = SAVE(&saved_control, is.file, FILE_ROOM);
+    expect(call, "with 16 bytes to spare", number, 0, 0);
+
+    // One byte too few: record 1,028 has no room, and nothing is written.
+    start(0);
+    want = is;
+    number = SAVE(&saved_control, is.file, KUJ_FILE_BYTES - 1);
+    expect(call, "a byte too few", number, 10, 1028);
+    is.beside = UNWRITTEN;
+    number = SAVE(&saved_control, NULL, 0);
+    expect(call, "NULL", number, 10, 0);
+
+    // A state out of range is tested first: VCR 65.
+    is.beside = UNWRITTEN;
+    const struct kuj_control bad = { .vcr = 65 };
+    number = SAVE(&bad, NULL, 0);
+    expect(call, "VCR 65", number, 12, 0);
+    end(of_kuj_save);
+}
+
+#define LOAD(FILE_AT, LENGTH) \
+    CALL(kuj_load, .elements = is.elements, .control = &is.control, .file = FILE_AT, .file_len = LENGTH, .beside = &is.beside)
+
+static void load(void) {
+    const char *call = "kuj_load";
+    uint32_t number;
+
+    // What stood there before, VLR 99 and a V0[0], is not looked at.
+    start(99);
+    V(is, 0, 0) = 1;
+    put_file(is.file);
+    want = is;
+    memcpy(want.elements, saved_elements, sizeof want.elements);
+    want.control = saved_control;
+    number = LOAD(is.file, KUJ_FILE_BYTES);
+    expect(call, "a file", number, 0, 0);
+
+    // A byte more is the extra record 1,029; VCR 65 is out of range, and VCR is record 1,026; a byte less cuts record 1,028.
+    start(99);
+    put_file(is.file);
+    want = is;
+    number = LOAD(is.file, KUJ_FILE_BYTES + 1);
+    expect(call, "a byte more", number, 10, 1029);
+    is.beside = UNWRITTEN;
+    number = LOAD(is.file, KUJ_FILE_BYTES - 1);
+    expect(call, "a byte less", number, 10, 1028);
+    put_record(is.file, 1026, 65);
+    want = is;
+    number = LOAD(is.file, KUJ_FILE_BYTES);
+    expect(call, "VCR 65", number, 10, 1026);
+    is.beside = UNWRITTEN;
+    number = LOAD(NULL, 0);
+    expect(call, "NULL", number, 10, 0);
+    end(of_kuj_load);
+}
+
+// ---- kuj_reading ----
+
+// V2[5] = 80000001 with ones above, V5[2] = 4120, V0[1] = 8004, V1[0] = 9.
+static const uint64_t shown[KUJ_ELEMENTS] = {
+    [2 * 64 + 5] = 0xFFFFFFFF80000001, [5 * 64 + 2] = 0x4120, [0 * 64 + 1] = 0x8004, [1 * 64 + 0] = 9
+};
+
+static uint32_t reading(uint32_t reg, uint32_t element, uint32_t kind) {
+    return CALL(kuj_reading, .elements = shown, .control = &saved_control, .reg = reg, .element = element, .kind = kind,
+                .kind_read = &is.kind_read, .bits = &is.bits, .beside = &is.beside);
+}
+
+static void readings(void) {
+    const char *call = "kuj_reading";
+    uint32_t number;
+
+    // As a longword: the 32 bits as they stand.
+    start(0);
+    want = is;
+    want.kind_read = KUJ_READ_LONGWORD;
+    want.bits = 0x80000001;
+    number = reading(2, 5, KUJ_LONGWORD);
+    expect(call, "V2[5] as a longword", number, 0, 0);
+
+    // F 4120 is 0.101 (binary) times 2^2, 2.5; binary64 has 1.01 times 2^1, exponent 1 + 1,023 = 400 (hex), fraction 4000000000000.
+    start(0);
+    want = is;
+    want.kind_read = KUJ_READ_BINARY64;
+    want.bits = 0x4004000000000000;
+    number = reading(5, 2, KUJ_F_FLOATING);
+    expect(call, "V5[2] as F", number, 0, 0);
+
+    // 8004 is reserved, with code 4.
+    start(0);
+    want = is;
+    want.kind_read = KUJ_READ_RESERVED;
+    want.bits = 4;
+    number = reading(0, 1, KUJ_F_FLOATING);
+    expect(call, "V0[1] as F", number, 0, 0);
+
+    // The first that there is not, and 256 and 2^31, which a narrower parameter would cut to 0. What is read is kept.
+    static const struct { const char *what; uint32_t reg, element, kind; } none[] = {
+        { "register 16", 16, 0, 0 }, { "element 64", 0, 64, 0 }, { "kind 2", 0, 0, 2 },
+        { "register 256", 256, 0, 0 }, { "element 256", 0, 256, 0 }, { "kind 256", 0, 0, 256 },
+        { "register 65536", 65536, 0, 0 }, { "element 65536", 0, 65536, 0 }, { "kind 65536", 0, 0, 65536 },
+        { "register 2^31", 0x80000000, 0, 0 }, { "element 2^31", 0, 0x80000000, 0 }, { "kind 2^31", 0, 0, 0x80000000 },
+    };
+    for (size_t k = 0; k < sizeof none / sizeof none[0]; k++) {
+        start(0);
+        want = is;
+        number = reading(none[k].reg, none[k].element, none[k].kind);
+        expect(call, none[k].what, number, 13, 0);
+    }
+    end(of_kuj_reading);
+}
+
+// ---- Control moves ----
+
+// Five numbers that are all different; halves of VMR too.
+static const struct kuj_control enabled = { .vlr = 4, .vmr = 0x1122334455667788, .vcr = 3, .vaer = 0x00200020, .vpsr = VEN | AEX };
+// The same with VEN 0; then VAER with its bit 4 too, which is out of range.
+static const struct kuj_control disabled = { .vlr = 4, .vmr = 0x1122334455667788, .vcr = 3, .vaer = 0x00200020, .vpsr = AEX };
+static const struct kuj_control broken = { .vlr = 4, .vmr = 0x1122334455667788, .vcr = 3, .vaer = 0x00200030, .vpsr = AEX };
+
+// A read of the three records: what stands beside 0 for the first, the answer for the second, and 12.
+#define READ(NAME, VALUE, NUMBER_DISABLED, BESIDE_DISABLED) do { \
+        uint32_t number; \
+        start(0); \
+        want = is; \
+        number = CALL(NAME, .control = &enabled, .beside = &is.beside); \
+        expect(#NAME, "enabled", number, 0, VALUE); \
+        is.beside = UNWRITTEN; \
+        number = CALL(NAME, .control = &disabled, .beside = &is.beside); \
+        expect(#NAME, "disabled", number, NUMBER_DISABLED, BESIDE_DISABLED); \
+        is.beside = UNWRITTEN; \
+        number = CALL(NAME, .control = &broken, .beside = &is.beside); \
+        expect(#NAME, "out of range", number, 12, 0); \
+        end(of_##NAME); \
+    } while (0)
+
+static void reads(void) {
+    READ(kuj_read_vlr, 4, 3, 0);
+    READ(kuj_read_vcr, 3, 3, 0);
+    READ(kuj_read_vmr_low, 0x55667788, 3, 0);
+    READ(kuj_read_vmr_high, 0x11223344, 3, 0);
+    READ(kuj_read_vaer, 0x00200020, 0, 0x00200020);
+    READ(kuj_read_vpsr, 0x81, 0, 0x80);
+}
+
+// A write to a copy of a record. Afterwards the whole record is compared.
+#define WRITE(NAME, WHAT, RECORD, VALUE, NUMBER, ...) do { \
+        uint32_t number; \
+        start(0); \
+        is.control = RECORD; \
+        want = is; \
+        __VA_ARGS__; \
+        number = CALL(NAME, .control = &is.control, .value = VALUE, .beside = &is.beside); \
+        expect(#NAME, WHAT, number, NUMBER, 0); \
+    } while (0)
+
+// A refused write stores nothing, so that the record may stand in memory that cannot be written: a store there ends the program.
+#define REFUSED(NAME, WHAT, RECORD, VALUE, NUMBER) do { \
+        uint32_t number; \
+        WRITE(NAME, WHAT, RECORD, VALUE, NUMBER, (void)0); \
+        is.beside = UNWRITTEN; \
+        number = CALL(NAME, .control = (struct kuj_control *)&RECORD, .value = VALUE, .beside = &is.beside); \
+        expect(#NAME, WHAT, number, NUMBER, 0); \
+    } while (0)
+
+static void writes(void) {
+    WRITE(kuj_write_vlr, "9", enabled, 9, 0, want.control.vlr = 9);
+    WRITE(kuj_write_vlr, "64", enabled, 64, 0, want.control.vlr = 64);
+    REFUSED(kuj_write_vlr, "65", enabled, 65, 11);
+    REFUSED(kuj_write_vlr, "2^32", enabled, 0x100000000, 11);
+    REFUSED(kuj_write_vlr, "2^32 + 1", enabled, 0x100000001, 11);
+    REFUSED(kuj_write_vlr, "2^64 - 1", enabled, UINT64_MAX, 11);
+    REFUSED(kuj_write_vlr, "9, disabled", disabled, 9, 3);
+    REFUSED(kuj_write_vlr, "65, disabled", disabled, 65, 3);
+    REFUSED(kuj_write_vlr, "65, out of range and disabled", broken, 65, 12);
+    end(of_kuj_write_vlr);
+
+    WRITE(kuj_write_vcr, "10", enabled, 10, 0, want.control.vcr = 10);
+    WRITE(kuj_write_vcr, "64", enabled, 64, 0, want.control.vcr = 64);
+    REFUSED(kuj_write_vcr, "65", enabled, 65, 11);
+    REFUSED(kuj_write_vcr, "2^32", enabled, 0x100000000, 11);
+    REFUSED(kuj_write_vcr, "2^32 + 1", enabled, 0x100000001, 11);
+    REFUSED(kuj_write_vcr, "2^64 - 1", enabled, UINT64_MAX, 11);
+    REFUSED(kuj_write_vcr, "10, disabled", disabled, 10, 3);
+    REFUSED(kuj_write_vcr, "65, disabled", disabled, 65, 3);
+    REFUSED(kuj_write_vcr, "65, out of range and disabled", broken, 65, 12);
+    end(of_kuj_write_vcr);
+
+    // The other half stays. Any 32 bits are taken, so there is no 11.
+    WRITE(kuj_write_vmr_low, "A1B2C3D4", enabled, 0xA1B2C3D4, 0, want.control.vmr = 0x11223344A1B2C3D4);
+    REFUSED(kuj_write_vmr_low, "disabled", disabled, 0xA1B2C3D4, 3);
+    REFUSED(kuj_write_vmr_low, "out of range and disabled", broken, 0xA1B2C3D4, 12);
+    end(of_kuj_write_vmr_low);
+    WRITE(kuj_write_vmr_high, "A1B2C3D4", enabled, 0xA1B2C3D4, 0, want.control.vmr = 0xA1B2C3D455667788);
+    REFUSED(kuj_write_vmr_high, "disabled", disabled, 0xA1B2C3D4, 3);
+    REFUSED(kuj_write_vmr_high, "out of range and disabled", broken, 0xA1B2C3D4, 12);
+    end(of_kuj_write_vmr_high);
+
+    // VEN becomes bit 0, AEX and VAER stay; bit 7 clears AEX and VAER; bit 1 clears VPSR and VAER. It is not refused as disabled.
+    WRITE(kuj_write_vpsr, "0", enabled, 0, 0, want.control.vpsr = AEX);
+    WRITE(kuj_write_vpsr, "1, disabled", disabled, 1, 0, want.control.vpsr = VEN | AEX);
+    WRITE(kuj_write_vpsr, "81", disabled, 0x81, 0, want.control.vpsr = VEN, want.control.vaer = 0);
+    WRITE(kuj_write_vpsr, "2", enabled, 2, 0, want.control.vpsr = 0, want.control.vaer = 0);
+    // Setting 5 of <3:0>, and a one at either end of <4>, <23:8> and <30:26>, disabled too; 12 is tested before.
+    REFUSED(kuj_write_vpsr, "5", enabled, 5, 11);
+    REFUSED(kuj_write_vpsr, "5, disabled", disabled, 5, 11);
+    REFUSED(kuj_write_vpsr, "11", enabled, 0x00000011, 11);
+    REFUSED(kuj_write_vpsr, "101", enabled, 0x00000101, 11);
+    REFUSED(kuj_write_vpsr, "800001", enabled, 0x00800001, 11);
+    REFUSED(kuj_write_vpsr, "4000001", enabled, 0x04000001, 11);
+    REFUSED(kuj_write_vpsr, "40000001", enabled, 0x40000001, 11);
+    REFUSED(kuj_write_vpsr, "1, out of range", broken, 1, 12);
+    REFUSED(kuj_write_vpsr, "5, out of range", broken, 5, 12);
+    end(of_kuj_write_vpsr);
+}
+
+int main(void) {
+    setvbuf(stdout, NULL, _IOLBF, BUFSIZ);
+    execute();
+    run();
+    run_order();
+    save();
+    load();
+    readings();
+    reads();
+    writes();
+    for (int k = 0; k < CALLS; k++) {
+        if (times[k] > 0) continue;
+        differences++;
+        printf("DIFFERS: %s is in the header and has no case here\n", names[k]);
+    }
+    printf("header: %d calls, %s\n", CALLS, differences ? "DIFFERENT" : "SAME");
+    return differences != 0;
+}
