@@ -1,12 +1,11 @@
 -- How many digits plain decimal takes. Assumes nothing.
 use mathlib.Core.Logic.{⊎-elim}
 use mathlib.Core.Path.{_≡_, sym, ap, subst}
-use Prim.Native.Nat.{ℕ, zero, suc, _+_, _-_, _*_, _/_, _^_, _≤_, _<_}
+use Prim.Native.Nat.{ℕ, zero, suc, _+_, _-_, _/_, _^_, _≤_, _<_}
 use native.Mathlib.Nat.{pow-suc}
 use native.Mathlib.Omega.{arith}
 use lib.Dec.{ltb}
 use borrow.Author.Tests.{lt-ltb, le-ltb}
-use Rattle.numbers.specs.Choice.{pick}
 use Rattle.numbers.proofs.Tests.{pick-true, pick-false, below-or-not}
 use Rattle.listing.specs.Text.{decimals, widthOf}
 
@@ -19,7 +18,7 @@ from-ten : (n x : ℕ) → 10 ≤ x → decimals (suc n) x ≡ suc (decimals n (
 unfolding decimals
 from-ten n x h = pick-false (ltb x 10) 1 _ (le-ltb x 10 h)
 
--- a number takes as many digits as are counted at most
+-- at most n digits are counted
 most : (n x : ℕ) → decimals n x ≤ n
 unfolding decimals
 most zero x = omega arith
@@ -36,7 +35,7 @@ below (suc n) (suc k) x h =
     (λ u. omega (arith, from-ten n x u, below n k (x / 10) (omega (arith, pow-suc 10 (suc k)))))
     (below-or-not x 10)
 
--- NO DIGIT IS CUT of a number of 64 bits
+-- n digits count no fewer than the number has where it is below ten to the n
 whole : (n x : ℕ) → x < 10 ^ suc n → x < 10 ^ decimals (suc n) x
 whole zero x h = subst (λ (k : ℕ). x < 10 ^ k) (sym (below-ten zero x h)) h
 whole (suc n) x h =
@@ -45,6 +44,7 @@ whole (suc n) x h =
     (λ u. subst (λ (k : ℕ). x < 10 ^ k) (sym (from-ten (suc n) x u)) (omega (arith, pow-suc 10 (decimals (suc n) (x / 10)), whole n (x / 10) (omega (arith, pow-suc 10 (suc n))))))
     (below-or-not x 10)
 
+-- NO DIGIT IS CUT of a number of 64 bits
 pub number-whole : (x : ℕ) → x < 2 ^ 64 → x < 10 ^ widthOf x
 unfolding widthOf
 number-whole x h = whole 19 x (omega arith)
@@ -76,11 +76,11 @@ counting-ends n rest w h u e =
     omega (arith, below-ten (20 - n) rest u)
 
 -- the twentieth digit is the last
-last : (x : ℕ) → decimals 1 x ≡ 1
+last-digit : (x : ℕ) → decimals 1 x ≡ 1
 unfolding decimals
-last x = ⊎-elim (λ h. below-ten 0 x h) (λ h. from-ten 0 x h) (below-or-not x 10)
+last-digit x = ⊎-elim (λ h. below-ten 0 x h) (λ h. from-ten 0 x h) (below-or-not x 10)
 
 pub counting-full : (n rest w : ℕ) → n ≤ 20 → 20 ≤ n → n + decimals (21 - n) rest ≡ suc w → n ≡ w
 counting-full n rest w h u e =
     let p : decimals (21 - n) rest ≡ decimals 1 rest = ap (λ (k : ℕ). decimals k rest) (omega arith) in
-    omega (arith, last rest)
+    omega (arith, last-digit rest)

@@ -1,19 +1,14 @@
 -- Writing bytes one after another. Assumes nothing.
-use mathlib.Core.Bool.{Bool, true, false}
 use mathlib.Core.Path.{_≡_, refl, sym, ap, _∙_, subst}
 use mathlib.Core.List.{List, [], _∷_, _++_, append-assoc}
 use Prim.Native.Nat.{ℕ, zero, suc, _+_, _-_, _/_, _%_, _≤_, _<_}
 use native.Mathlib.Nat.{add-zero, le-add-right, mod-lt}
 use native.Mathlib.Numerals.{add-one}
 use native.Mathlib.Omega.{arith}
-use lib.Dec.{ltb}
 use lib.ListN.{length, take, drop, set, getD, length-append, take-append-drop}
 use lib.Seq.{paste, paste-suc, take-set-le, drop-set-add, drop-cons, take-length}
-use Rattle.numbers.specs.Choice.{pick}
 use Rattle.numbers.specs.Over.{over}
-use Rattle.numbers.proofs.Tests.{pick-true}
 use Rattle.numbers.proofs.Over.{over-over, length-over}
-use borrow.Author.Tests.{lt-ltb}
 use Rattle.state.specs.declared.Control.{Control}
 use Rattle.listing.specs.Text.{digitOf, digits, widthOf, line, elementLine, controlLines}
 use Rattle.listing.specs.Wrote.{Wrote}

@@ -26,7 +26,7 @@ unfoldable pub decimals : ℕ → ℕ → ℕ
 decimals zero x = zero
 decimals (suc n) x = pick (ltb x 10) 1 (suc (decimals n (x / 10)))
 
--- 20 digits hold every number of 64 bits
+-- 20 digits hold every number of 64 bits: proofs/Width.antt, `number-whole`
 unfoldable pub widthOf : ℕ → ℕ
 widthOf x = decimals 20 x
 

@@ -2,7 +2,7 @@
 use mathlib.Core.Bool.{Bool, true, false}
 use mathlib.Core.Path.{_≡_, refl, sym, ap, subst, _∙_}
 use mathlib.Core.List.{List, [], _∷_, _++_, append-nil}
-use Prim.Native.Nat.{ℕ, _+_, _-_, _/_, _≤_, _<_}
+use Prim.Native.Nat.{ℕ, _+_, _-_, _/_, _≤_}
 use native.Mathlib.Omega.{arith}
 use lib.ListN.{length, take, drop, length-append, length-drop, drop-of-length-le}
 use lib.Seq.{take-all, drop-drop}
@@ -12,11 +12,11 @@ use Rattle.numbers.specs.Choice.{pick}
 use Rattle.numbers.specs.Over.{over}
 use Rattle.numbers.proofs.Over.{part-over}
 use Rattle.numbers.proofs.Tests.{true-not-false}
-use Rattle.state.specs.Answer.{Answer, answer, done, badFile, queueRefused}
+use Rattle.state.specs.Answer.{Answer, answer, done}
 use Rattle.state.specs.State.{State, inRange}
-use Rattle.saved.specs.Load.{accepted, leading, stateIn}
+use Rattle.saved.specs.Load.{accepted, stateIn}
 use Rattle.queue.specs.Queue.{Queue, fine, acceptance}
-use Rattle.queue.specs.Run.{Outcome, outcome, queueRun, ranThrough}
+use Rattle.queue.specs.Run.{Outcome, outcome, queueRun}
 use Rattle.queue.proofs.Again.{run-in-range}
 use types.Run.{OneOf, miss}
 use denote.Enum.Declared.{tagOf}
@@ -32,41 +32,25 @@ use Rattle.running.specs.Runner.{fileIn, recordsIn, recordsRun, inputRun
 
 -- ---- a run that is done leaves a state in range
 
-queue-ranged : (q : Queue) (s : State) → fine (queueRun q s .answer) ≡ true → inRange (queueRun q s .state .control) ≡ true
+abbrev Ranged : Outcome → Type 0
+Ranged o = fine (o .answer) ≡ true → inRange (o .state .control) ≡ true
+
+-- where a test holds such an outcome, else a refusal
+else-refused : (b : Bool) (x y : Outcome) → (b ≡ true → Ranged x) → (b ≡ false → fine (y .answer) ≡ false) → Ranged (pick b x y)
+else-refused true x y p q e = p refl e
+else-refused false x y p q e = absurd (true-not-false (sym (q refl) ∙ e))
+
+queue-ranged : (q : Queue) (s : State) → Ranged (queueRun q s)
 unfolding queueRun
-queue-ranged q s = either (fine (acceptance (s .control) q)) refl
-  where
-    ends : Bool → Outcome
-    ends b = pick b (outcome (done 0) (ranThrough q s)) (outcome (acceptance (s .control) q) s)
+queue-ranged q s = else-refused (fine (acceptance (s .control) q)) _ _ (λ t e. run-in-range q s t) (λ t. t)
 
-    either : (b : Bool) → fine (acceptance (s .control) q) ≡ b → fine (ends b .answer) ≡ true → inRange (ends b .state .control) ≡ true
-    either true t e = run-in-range q s t
-    either false t e = absurd (true-not-false (sym t ∙ e))
-
-records-ranged : (records : List ℕ) (s : State) → fine (recordsRun records s .answer) ≡ true → inRange (recordsRun records s .state .control) ≡ true
+records-ranged : (records : List ℕ) (s : State) → Ranged (recordsRun records s)
 unfolding recordsRun
-records-ranged records s = either (wellFormed records)
-  where
-    q : Queue
-    q = queueIn (length records / 16) records
+records-ranged records s = else-refused (wellFormed records) _ _ (λ t. queue-ranged (queueIn (length records / 16) records) s) (λ t. refl)
 
-    ends : Bool → Outcome
-    ends b = pick b (queueRun q s) (outcome queueRefused s)
-
-    either : (b : Bool) → fine (ends b .answer) ≡ true → inRange (ends b .state .control) ≡ true
-    either true e = queue-ranged q s e
-    either false e = absurd (true-not-false e)
-
-input-ranged : (input : List ℕ) (old : State) → fine (inputRun input old .answer) ≡ true → inRange (inputRun input old .state .control) ≡ true
+input-ranged : (input : List ℕ) (old : State) → Ranged (inputRun input old)
 unfolding inputRun
-input-ranged input old = either (accepted (fileIn input))
-  where
-    ends : Bool → Outcome
-    ends b = pick b (recordsRun (recordsIn input) (stateIn (fileIn input))) (outcome (badFile (leading 1029 (fileIn input))) old)
-
-    either : (b : Bool) → fine (ends b .answer) ≡ true → inRange (ends b .state .control) ≡ true
-    either true e = records-ranged (recordsIn input) (stateIn (fileIn input)) e
-    either false e = absurd (true-not-false e)
+input-ranged input old = else-refused (accepted (fileIn input)) _ _ (λ t. records-ranged (recordsIn input) (stateIn (fileIn input))) (λ t. refl)
 
 -- ---- 25,705 bytes hold every text
 
