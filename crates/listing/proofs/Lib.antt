@@ -1,3 +1,4 @@
 -- Laws of the listing.
-pub mod Listed
+pub mod Printing
+pub mod Width
 pub mod Writing

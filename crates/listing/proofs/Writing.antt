@@ -1,22 +1,18 @@
 -- Writing bytes one after another. Assumes nothing.
-use mathlib.Core.Bool.{Bool, true, false}
 use mathlib.Core.Path.{_≡_, refl, sym, ap, _∙_, subst}
 use mathlib.Core.List.{List, [], _∷_, _++_, append-assoc}
 use Prim.Native.Nat.{ℕ, zero, suc, _+_, _-_, _/_, _%_, _≤_, _<_}
 use native.Mathlib.Nat.{add-zero, le-add-right, mod-lt}
 use native.Mathlib.Numerals.{add-one}
 use native.Mathlib.Omega.{arith}
-use lib.Dec.{ltb}
 use lib.ListN.{length, take, drop, set, getD, length-append, take-append-drop}
 use lib.Seq.{paste, paste-suc, take-set-le, drop-set-add, drop-cons, take-length}
-use Rattle.numbers.specs.Choice.{pick}
 use Rattle.numbers.specs.Over.{over}
-use Rattle.numbers.proofs.Tests.{pick-true}
 use Rattle.numbers.proofs.Over.{over-over, length-over}
-use borrow.Author.Tests.{lt-ltb}
 use Rattle.state.specs.declared.Control.{Control}
 use Rattle.listing.specs.Text.{digitOf, digits, widthOf, line, elementLine, controlLines}
 use Rattle.listing.specs.Wrote.{Wrote}
+use Rattle.listing.proofs.Width.{width-two}
 
 -- two writings, the second where the first ended, are one
 pub wrote-both : (t₀ t₁ t₂ : List ℕ) (a b c : ℕ) (x y : List ℕ) → Wrote t₀ t₁ a b x → Wrote t₁ t₂ b c y → a + length x ≤ length t₀ → Wrote t₀ t₂ a c (x ++ y)
@@ -156,15 +152,6 @@ element-length register element v =
     let d₂ : length (digits 10 2 element) ≡ 2 = digits-length 10 2 element in
     let l : length (line (93 ∷ 32 ∷ []) 16 16 v) ≡ 2 + 16 + 1 = line-length (93 ∷ 32 ∷ []) 16 16 v in
     simp length-append (omega arith)
-
--- a length takes two digits at most
-pub width-two : (x w : ℕ) → x ≤ 64 → w ≡ widthOf x → w ≤ 2
-unfolding widthOf
-width-two x w h e = subst (λ (n : ℕ). n ≤ 2) (sym e) (either (ltb x 10) (ltb x 100) (lt-ltb x 100 (omega arith)))
-  where
-    either : (b t : Bool) → t ≡ true → pick b 1 (pick t 2 (pick (ltb x 1000) 3 4)) ≤ 2
-    either true t q = omega arith
-    either false t q = subst (λ (n : ℕ). n ≤ 2) (sym (pick-true t 2 _ q)) (omega arith)
 
 pub control-wrote : (t₀ t₁ t₂ t₃ t₄ t₅ : List ℕ) (at a b c d r w₀ w₁ : ℕ) (k : Control) → k .vlr ≤ 64 → k .vcr ≤ 64 → at + 63 ≤ length t₀ → w₀ ≡ widthOf (k .vlr) → w₁ ≡ widthOf (k .vcr)
     → WroteLine t₀ t₁ at a (86 ∷ 76 ∷ 82 ∷ 32 ∷ []) 10 w₀ (k .vlr) → WroteLine t₁ t₂ a b (86 ∷ 77 ∷ 82 ∷ 32 ∷ []) 16 16 (k .vmr) → WroteLine t₂ t₃ b c (86 ∷ 67 ∷ 82 ∷ 32 ∷ []) 10 w₁ (k .vcr)

@@ -1,15 +1,16 @@
 -- Document 01, "Saved state and readings": what the lister prints, as bytes of ASCII.
-use mathlib.Core.Bool.{_&&_}
 use mathlib.Core.List.{List, [], _∷_, _++_}
 use Prim.Native.Nat.{ℕ, zero, suc, _+_, _/_, _%_}
 use lib.Dec.{ltb, leb, eqb}
 use lib.ListN.{length, getD}
 use Rattle.numbers.specs.Choice.{pick}
 use Rattle.numbers.specs.Over.{over}
-use Rattle.state.specs.Answer.{Answer}
+use Rattle.state.specs.Answer.{Answer, done, badFile, outOfRange}
 use Rattle.state.specs.State.{State, inRange}
 use Rattle.state.specs.declared.Control.{Control}
 use Rattle.saved.specs.Load.{leading, accepted, stateIn}
+use Rattle.listing.specs.declared.Listed.{Listed}
+use Rattle.listing.specs.declared.Listed.the-variants.{Text, StateOutOfRange, NoRoom}
 
 -- the digit of a number below 16: 0 to 9, then capitals
 unfoldable pub digitOf : ℕ → ℕ
@@ -20,9 +21,14 @@ unfoldable pub digits : ℕ → ℕ → ℕ → List ℕ
 digits base zero x = []
 digits base (suc n) x = digits base n (x / base) ++ (digitOf (x % base) ∷ [])
 
--- how many digits plain decimal takes for a number below 10,000
+-- how many digits plain decimal takes, n at most: a number below ten takes one, another one more than its tenth
+unfoldable pub decimals : ℕ → ℕ → ℕ
+decimals zero x = zero
+decimals (suc n) x = pick (ltb x 10) 1 (suc (decimals n (x / 10)))
+
+-- 20 digits hold every number of 64 bits: proofs/Width.antt, `number-whole`
 unfoldable pub widthOf : ℕ → ℕ
-widthOf x = pick (ltb x 10) 1 (pick (ltb x 100) 2 (pick (ltb x 1000) 3 4))
+widthOf x = decimals 20 x
 
 -- a line: what it starts with, n digits of x in a base, and a newline
 unfoldable pub line : List ℕ → ℕ → ℕ → ℕ → List ℕ
@@ -67,18 +73,24 @@ answerLine a = digits 10 (widthOf (a .number)) (a .number) ++ line (32 ∷ []) 1
 unfoldable pub listed : List ℕ → List ℕ
 listed file = pick (accepted file) (listing (stateIn file)) (badLine (leading 1029 file))
 
--- What a call that prints a text into lent bytes gives back, and the bytes after it: the text's length
--- and the text, with the bytes beyond it kept.
-unfoldable pub printed : List ℕ → List ℕ → ℕ × List ℕ
-printed text bytes = (length text, over bytes 0 text)
+-- the number of each answer, and what stands beside it
+abbrev pub listedAnswer : Listed → Answer
+listedAnswer (Text n) = done n
+listedAnswer StateOutOfRange = outOfRange
+listedAnswer NoRoom = badFile 0
 
--- 25,663 bytes hold every listing. With less room, or a state out of range, nothing is written and the length is 0.
-unfoldable pub stateListed : State → List ℕ → ℕ × List ℕ
-stateListed s bytes = pick (inRange (s .control) && leb 25663 (length bytes)) (printed (listing s) bytes) (0, bytes)
+-- What a call that prints a text into lent bytes answers, and the bytes after it: the text's length and the
+-- text, with the bytes beyond it kept; with less room than it asks for, 10, and nothing is written.
+unfoldable pub printed : ℕ → List ℕ → List ℕ → Answer × List ℕ
+printed room text bytes = pick (leb room (length bytes)) (done (length text), over bytes 0 text) (badFile 0, bytes)
 
-unfoldable pub fileListed : List ℕ → List ℕ → ℕ × List ℕ
-fileListed file bytes = pick (leb 25663 (length bytes)) (printed (listed file) bytes) (0, bytes)
+-- 25,663 bytes hold every listing; a state out of range gets 12 first
+unfoldable pub stateListed : State → List ℕ → Answer × List ℕ
+stateListed s bytes = pick (inRange (s .control)) (printed 25663 (listing s) bytes) (outOfRange, bytes)
 
--- 10 bytes hold every answer's line
-unfoldable pub answerListed : Answer → List ℕ → ℕ × List ℕ
-answerListed a bytes = pick (leb 10 (length bytes)) (printed (answerLine a) bytes) (0, bytes)
+abbrev pub fileListed : List ℕ → List ℕ → Answer × List ℕ
+fileListed file bytes = printed 25663 (listed file) bytes
+
+-- 42 bytes hold every answer's line
+abbrev pub answerListed : Answer → List ℕ → Answer × List ℕ
+answerListed a bytes = printed 42 (answerLine a) bytes

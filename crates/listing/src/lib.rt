@@ -10,8 +10,21 @@ ghost use Prim.Native.Nat.{_+_, _<_, _≤_};
 ghost use lib.ListN.{length};
 ghost use Rattle.state.specs.Answer.{answer as answerOf};
 ghost use Rattle.state.specs.State.{state as stateOf};
-ghost use Rattle.listing.specs.Text.{elementText, elementLines, stateListed, answerListed, fileListed};
+ghost use Rattle.listing.specs.Text.{elementText, elementLines, listedAnswer, stateListed, answerListed, fileListed};
 ghost use Rattle.listing.specs.Wrote.{Wrote};
+
+// The bytes that hold every listing.
+const LISTING_ROOM: usize = 25663;
+
+// What a call that prints into lent bytes gives back.
+pub enum Listed {
+    // The text's length.
+    Text(usize),
+    // Nothing was written: the state is out of range.
+    StateOutOfRange,
+    // Nothing was written: the bytes may not hold the text.
+    NoRoom,
+}
 
 // Writes the line of record k, if it has one.
 fn put_element(text: &mut [u8], at: usize, k: usize, contents: u64) -> usize
@@ -21,13 +34,7 @@ fn put_element(text: &mut [u8], at: usize, k: usize, contents: u64) -> usize
     if contents == 0 {
         return at;
     }
-    write::element_line(
-        text,
-        at,
-        Register(k / 64),
-        Element(k % 64),
-        contents,
-    )
+    write::element_line(text, at, Register(k / 64), Element(k % 64), contents)
 }
 
 // Writes the lines of the elements.
@@ -45,33 +52,36 @@ fn put_elements(elements: &[u64; 1024], text: &mut [u8]) -> usize
 }
 
 // Prints the listing of a state.
-pub fn list_state(elements: &[u64; 1024], control: Control, text: &mut [u8]) -> usize
-    ensures { λ r. ⌜ (r, now (text .exit)) ≡ stateListed (stateOf (now (elements .entry)) control) (now (text .entry)) ⌝ }
+pub fn list_state(elements: &[u64; 1024], control: Control, text: &mut [u8]) -> Listed
+    ensures { λ r. ⌜ (listedAnswer r, now (text .exit)) ≡ stateListed (stateOf (now (elements .entry)) control) (now (text .entry)) ⌝ }
 {
-    if state::in_range(control) & (25663 <= text.len()) {
-        let at = put_elements(elements, &mut *text);
-        return write::control_lines(text, at, control);
+    if !state::in_range(control) {
+        return Listed::StateOutOfRange;
     }
-    0
+    if text.len() < LISTING_ROOM {
+        return Listed::NoRoom;
+    }
+    let at = put_elements(elements, &mut *text);
+    Listed::Text(write::control_lines(text, at, control))
 }
 
 // Prints an answer's line.
-pub fn list_answer(number: u64, beside: u64, text: &mut [u8]) -> usize
-    ensures { λ r. ⌜ (r, now (text .exit)) ≡ answerListed (answerOf number beside) (now (text .entry)) ⌝ }
+pub fn list_answer(number: u64, beside: u64, text: &mut [u8]) -> Listed
+    ensures { λ r. ⌜ (listedAnswer r, now (text .exit)) ≡ answerListed (answerOf number beside) (now (text .entry)) ⌝ }
 {
-    if text.len() < 10 {
-        return 0;
+    if text.len() < 42 {
+        return Listed::NoRoom;
     }
     let at = write::number(&mut *text, 0, 10, write::width(number), number);
-    write::line(text, at, b" ", 10, write::width(beside), beside)
+    Listed::Text(write::line(text, at, b" ", 10, write::width(beside), beside))
 }
 
 // Prints the listing of a saved file, or its first bad record.
-pub fn list_file(file: &[u8], text: &mut [u8]) -> usize
-    ensures { λ r. ⌜ (r, now (text .exit)) ≡ fileListed (now (file .entry)) (now (text .entry)) ⌝ }
+pub fn list_file(file: &[u8], text: &mut [u8]) -> Listed
+    ensures { λ r. ⌜ (listedAnswer r, now (text .exit)) ≡ fileListed (now (file .entry)) (now (text .entry)) ⌝ }
 {
-    if text.len() < 25663 {
-        return 0;
+    if text.len() < LISTING_ROOM {
+        return Listed::NoRoom;
     }
     let mut elements = [0u64; 1024];
     let none = Control {
@@ -85,6 +95,8 @@ pub fn list_file(file: &[u8], text: &mut [u8]) -> usize
     let answer = after.answer;
     match answer {
         Loaded::Done => list_state(&elements, after.control, text),
-        Loaded::BadRecord(n) => write::line(text, 0, b"bad record ", 10, write::width(n), n),
+        Loaded::BadRecord(n) => {
+            Listed::Text(write::line(text, 0, b"bad record ", 10, write::width(n), n))
+        }
     }
 }

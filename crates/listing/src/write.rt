@@ -47,20 +47,20 @@ pub(crate) fn number(text: &mut [u8], at: usize, base: u64, n: usize, x: u64) ->
     at + n
 }
 
-// How many digits plain decimal takes.
+// How many digits plain decimal takes: 20 hold every number of 64 bits.
 pub(crate) fn width(x: u64) -> usize
     ensures { λ r. ⌜ r ≡ widthOf x ⌝ }
 {
-    if x < 10 {
-        return 1;
+    let mut rest = x;
+    let mut n: usize = 1;
+    while n < 20 {
+        if rest < 10 {
+            return n;
+        }
+        rest = rest / 10;
+        n += 1;
     }
-    if x < 100 {
-        return 2;
-    }
-    if x < 1000 {
-        return 3;
-    }
-    4
+    n
 }
 
 // A line: its start, n digits, a newline.

@@ -1,12 +1,12 @@
 -- The runner: a saved file, then instruction records, run as one queue straight through; the answer and, on 0, the listing of the new state.
 use mathlib.Core.List.{List, [], _++_}
 use Prim.Native.Nat.{ℕ, _/_}
-use lib.Dec.{leb, ltb}
+use lib.Dec.{ltb}
 use lib.ListN.{length, take, drop, replicate}
 use Rattle.numbers.specs.Choice.{pick}
-use Rattle.state.specs.Answer.{badFile, queueRefused}
+use Rattle.state.specs.Answer.{Answer, badFile, queueRefused}
 use Rattle.state.specs.declared.Control.{Control}
-use Rattle.state.specs.State.{State, state, inRange}
+use Rattle.state.specs.State.{State, state}
 use Rattle.saved.specs.Load.{accepted, leading, stateIn}
 use Rattle.queue.specs.Queue.{fine}
 use Rattle.queue.specs.Run.{Outcome, outcome, queueRun}
@@ -42,14 +42,10 @@ none = record { vlr = 0; vmr = 0; vcr = 0; vaer = 0; vpsr = 0 }
 unfoldable pub blank : State
 blank = state (replicate 1024 0) none
 
--- the listing of a state; one out of range has none
-unfoldable pub stateText : State → List ℕ
-stateText s = pick (inRange (s .control)) (listing s) []
-
 -- the answer's line, and on 0 the listing of the state
 unfoldable pub textOf : Outcome → List ℕ
-textOf o = answerLine (o .answer) ++ pick (fine (o .answer)) (stateText (o .state)) []
+textOf o = answerLine (o .answer) ++ pick (fine (o .answer)) (listing (o .state)) []
 
--- What a call that prints this into lent bytes gives back, and the bytes after it. 25,673 bytes hold every text: with less room nothing is written and the length is 0.
-unfoldable pub inputPrinted : List ℕ → List ℕ → ℕ × List ℕ
-inputPrinted input bytes = pick (leb 25673 (length bytes)) (printed (textOf (inputRun input blank)) bytes) (0, bytes)
+-- the text of a run into lent bytes: 25,705 hold every answer's line and a listing
+abbrev pub inputPrinted : List ℕ → List ℕ → Answer × List ℕ
+inputPrinted input bytes = printed 25705 (textOf (inputRun input blank)) bytes

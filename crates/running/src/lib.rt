@@ -2,6 +2,7 @@
 mod record;
 mod records;
 
+use listing::Listed;
 use queue::Reply;
 use saved::Loaded;
 use state::Control;
@@ -10,6 +11,7 @@ ghost use Prim.Native.Nat.{_≤_};
 ghost use lib.ListN.{length};
 ghost use Rattle.state.specs.Answer.{answer};
 ghost use Rattle.state.specs.State.{state as stateOf};
+ghost use Rattle.listing.specs.Text.{listedAnswer};
 ghost use Rattle.queue.specs.Reply.{replyAnswer};
 ghost use Rattle.queue.specs.Run.{outcome};
 ghost use Rattle.running.specs.Runner.{fileSize, recordsRun, inputRun, inputPrinted, none};
@@ -133,18 +135,25 @@ fn run_input(elements: &mut [u64; 1024], input: &[u8]) -> Ended
 }
 
 // Prints the answer and, on 0, the listing of the new state.
-pub fn print_run(input: &[u8], text: &mut [u8]) -> usize
-    ensures { λ r. ⌜ (r, now (text .exit)) ≡ inputPrinted (now (input .entry)) (now (text .entry)) ⌝ }
+pub fn print_run(input: &[u8], text: &mut [u8]) -> Listed
+    ensures { λ r. ⌜ (listedAnswer r, now (text .exit)) ≡ inputPrinted (now (input .entry)) (now (text .entry)) ⌝ }
 {
-    if text.len() < 25673 {
-        return 0;
+    if text.len() < 25705 {
+        return Listed::NoRoom;
     }
     let mut elements = [0u64; 1024];
     let run = run_input(&mut elements, input);
-    let at = listing::list_answer(run.number, run.beside, &mut *text);
+    // There is room for both, and a run leaves a state in range, so a text comes each time.
+    let line = listing::list_answer(run.number, run.beside, &mut *text);
+    let Listed::Text(at) = line else {
+        return line;
+    };
     if run.number != 0 {
-        return at;
+        return line;
     }
-    let length = listing::list_state(&elements, run.control, &mut text[at..]);
-    at + length
+    let after = listing::list_state(&elements, run.control, &mut text[at..]);
+    let Listed::Text(length) = after else {
+        return after;
+    };
+    Listed::Text(at + length)
 }

@@ -1,18 +1,19 @@
 -- `list_answer` meets its contract: the number's digits, then a line from the space on. Assumes nothing.
 use native.Mathlib.Omega.{arith}
-use Rattle.listing.proofs.Listed.{no-answer, answer-listed, width-four}
+use Rattle.listing.proofs.Printing.{no-room, answer-listed}
+use Rattle.listing.proofs.Width.{width-twenty}
 use borrow.Author.Needs.{needs}
 use Rattle.listing.proofs.list_answer.Statement.{statement}
 use Rattle.listing.proofs.list_answer.Tie as tie
 
 returns : tie.Need-returns
-returns c = no-answer _ _ (c .if1 .taken)
+returns c = no-room _ _ _ (c .if1 .taken)
 
 width-requires : tie.Need-width-requires
 width-requires c κs = search needs
 
 number-requires : tie.Need-number-requires
-number-requires c κs = omega (arith, width-four _ _ (c .width .ensures))
+number-requires c κs = omega (arith, width-twenty _ _ (c .width .ensures))
 
 slice-aggregate-line : tie.Need-slice-aggregate-line
 slice-aggregate-line c = search needs
@@ -21,7 +22,7 @@ width-requires-2 : tie.Need-width-requires-2
 width-requires-2 c κs = search needs
 
 line-requires : tie.Need-line-requires
-line-requires c κs = omega (arith, width-four _ _ (c .width2 .ensures), width-four _ _ (c .before .before .before .before .before .before .width .ensures))
+line-requires c κs = omega (arith, width-twenty _ _ (c .width2 .ensures), width-twenty _ _ (c .before .before .before .before .before .before .width .ensures))
 
 same-length : tie.Need-same-length
 same-length c = search needs

@@ -2,13 +2,14 @@
 use Prim.Native.Nat.{ℕ}
 use native.Mathlib.Omega.{arith}
 use lib.ListN.{length-replicate}
-use Rattle.listing.proofs.Listed.{no-room, loaded-listed, refused-listed, width-four}
+use Rattle.listing.proofs.Printing.{no-room, loaded-listed, refused-listed}
+use Rattle.listing.proofs.Width.{width-twenty}
 use borrow.Author.Needs.{needs}
 use Rattle.listing.proofs.list_file.Statement.{statement}
 use Rattle.listing.proofs.list_file.Tie as tie
 
 returns : tie.Need-returns
-returns c = no-room _ _ (c .if1 .taken)
+returns c = no-room _ _ _ (c .if1 .taken)
 
 load-requires : tie.Need-load-requires
 load-requires c κs = search needs
@@ -29,13 +30,13 @@ width-requires : tie.Need-width-requires
 width-requires c κs = search needs
 
 line-requires : tie.Need-line-requires
-line-requires c κs = omega (arith, width-four _ _ (c .width .ensures))
+line-requires c κs = omega (arith, width-twenty _ _ (c .width .ensures))
 
 same-length : tie.Need-same-length
 same-length c = search needs
 
 returns-2 : tie.Need-returns-2
-returns-2 c = loaded-listed _ _ _ _ _ _ _ _ _ (length-replicate {A = ℕ} 1024 0) (c .before .before .before .before .before .before .before .before .before .if1 .left) (c .before .before .before .before .before .before .before .load .ensures) (c .before .before .before .before .before .enum-told .given .1) (c .before .before .list-state .ensures)
+returns-2 c = loaded-listed _ _ _ _ _ _ _ _ _ (length-replicate {A = ℕ} 1024 0) (c .before .before .before .before .before .before .before .load .ensures) (c .before .before .before .before .before .enum-told .given .1) (c .before .before .list-state .ensures)
 
 same-length-2 : tie.Need-same-length-2
 same-length-2 c = search needs

@@ -5,7 +5,7 @@ use native.Mathlib.Omega.{arith}
 use lib.ListN.{length}
 use Rattle.listing.specs.Text.{elementLines}
 use Rattle.listing.specs.Wrote.{Wrote}
-use Rattle.listing.proofs.Listed.{starts, turns, ends}
+use Rattle.listing.proofs.Printing.{starts, turns, ends}
 use Rattle.listing.proofs.put_elements.Statement.{statement}
 use Rattle.listing.proofs.put_elements.Tie as tie
 

@@ -1,6 +1,7 @@
 -- `control_lines` meets its contract: its five lines follow one another. Assumes nothing.
 use native.Mathlib.Omega.{arith}
-use Rattle.listing.proofs.Writing.{width-two, control-wrote}
+use Rattle.listing.proofs.Width.{width-two}
+use Rattle.listing.proofs.Writing.{control-wrote}
 use borrow.Author.Needs.{needs}
 use Rattle.listing.proofs.write.control_lines.Statement.{statement}
 use Rattle.listing.proofs.write.control_lines.Tie as tie

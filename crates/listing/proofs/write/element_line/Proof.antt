@@ -10,9 +10,6 @@ slice-aggregate-copy c = search needs
 copy-requires : tie.Need-copy-requires
 copy-requires c κs = search needs
 
-cast-number : tie.Need-cast-number
-cast-number c = search needs
-
 number-requires : tie.Need-number-requires
 number-requires c κs = search needs
 
@@ -21,9 +18,6 @@ slice-aggregate-copy-2 c = search needs
 
 copy-requires-2 : tie.Need-copy-requires-2
 copy-requires-2 c κs = search needs
-
-cast-number-2 : tie.Need-cast-number-2
-cast-number-2 c = search needs
 
 number-requires-2 : tie.Need-number-requires-2
 number-requires-2 c κs = search needs
@@ -39,13 +33,13 @@ same-length c = search needs
 
 returns : tie.Need-returns
 returns c =
-    element-wrote _ _ _ _ _ _ _ _ _ _ _ _ _ _ _
-    (c .before .before .before .before .before .before .before .before .before .before .before .before .before .before .before .before .before .before .before .before .before .before .before .before .before .before .pre)
-    (c .before .before .before .before .before .before .before .before .before .before .before .before .before .before .before .before .before .before .before .before .before .before .copy .ensures)
-    (c .before .before .before .before .before .before .before .before .before .before .before .before .before .before .before .before .before .number .ensures)
-    (c .before .before .before .before .before .before .before .before .before .before .before .before .copy2 .ensures)
-    (c .before .before .before .before .before .before .before .number2 .ensures)
-    (c .before .before .line .ensures)
+    let fifth = c .before .before in
+    let fourth = fifth .before .before .before .before .before in
+    let third = fourth .before .before .before .before in
+    let second = third .before .before .before .before .before in
+    let first = second .before .before .before .before in
+    let start = first .before .before .before .before in
+    element-wrote _ _ _ _ _ _ _ _ _ _ _ _ _ _ _ (start .pre) (first .copy .ensures) (second .number .ensures) (third .copy2 .ensures) (fourth .number2 .ensures) (fifth .line .ensures)
 
 pub element-line-spec : {M : Type 1} → statement M
 element-line-spec =
@@ -53,11 +47,9 @@ element-line-spec =
     (tie.spec
     slice-aggregate-copy
     copy-requires
-    cast-number
     number-requires
     slice-aggregate-copy-2
     copy-requires-2
-    cast-number-2
     number-requires-2
     slice-aggregate-line
     line-requires

@@ -1,24 +1,36 @@
--- `width` meets its contract: its tests are the definition's. Assumes nothing.
-use borrow.Author.Tests.{lt-ltb, le-ltb}
-use Rattle.listing.specs.Text.{widthOf}
+-- `width` meets its contract: the digits that were counted, and those that the rest takes. Assumes nothing.
+use mathlib.Core.Path.{_≡_}
+use Prim.Native.Nat.{suc, _+_, _-_, _≤_}
+use native.Mathlib.Omega.{arith}
+use Rattle.listing.specs.Text.{decimals, widthOf}
+use Rattle.listing.proofs.Width.{counting-starts, counting-turns, counting-ends, counting-full}
 use Rattle.listing.proofs.write.width.Statement.{statement}
 use Rattle.listing.proofs.write.width.Tie as tie
 
-returns : tie.Need-returns
-unfolding widthOf
-returns c = simp (lt-ltb _ _ (c .if1 .taken))
+abbrev Inv-loop : tie.InvT-loop
+Inv-loop x rest₀ n₀ rest n = (n ≤ 20) × (n + decimals (21 - n) rest ≡ suc (widthOf x))
 
-returns-2 : tie.Need-returns-2
-unfolding widthOf
-returns-2 c = simp (le-ltb _ _ (c .before .if1 .left), lt-ltb _ _ (c .if2 .taken))
+abbrev μ-loop : tie.MeasureT-loop
+μ-loop x rest₀ n₀ rest n = 20 - n
 
-returns-3 : tie.Need-returns-3
-unfolding widthOf
-returns-3 c = simp (le-ltb _ _ (c .before .before .if1 .left), le-ltb _ _ (c .before .if2 .left), lt-ltb _ _ (c .if3 .taken))
+loop-holds : tie.Need-loop-holds Inv-loop μ-loop
+loop-holds c = (omega arith, counting-starts _)
 
-returns-4 : tie.Need-returns-4
-unfolding widthOf
-returns-4 c = simp (le-ltb _ _ (c .before .before .if1 .left), le-ltb _ _ (c .before .if2 .left), le-ltb _ _ (c .if3 .left))
+returns : tie.Need-returns Inv-loop μ-loop
+returns c = counting-ends _ _ _ (c .before .before .loop .inv .0) (c .if1 .taken) (c .before .before .loop .inv .1)
+
+add-n : tie.Need-add-n Inv-loop μ-loop
+add-n c = omega arith
+
+loop-less : tie.Need-loop-less Inv-loop μ-loop
+loop-less c = omega arith
+
+loop-again : tie.Need-loop-again Inv-loop μ-loop
+loop-again c = (omega arith, counting-turns _ _ _ (c .before .before .loop .inv .0) (c .if1 .left) (c .before .before .loop .inv .1))
+
+returns-2 : tie.Need-returns-2 Inv-loop μ-loop
+returns-2 c = counting-full _ _ _ (c .before .loop .inv .0) (c .loop-test .left) (c .before .loop .inv .1)
 
 pub width-spec : {M : Type 1} → statement M
-width-spec = tie.close (tie.spec returns returns-2 returns-3 returns-4)
+width-spec =
+    tie.close (tie.spec Inv-loop μ-loop loop-holds returns add-n loop-less loop-again returns-2)
