@@ -69,18 +69,18 @@ fn alter(control: &mut [u64; 5], after: Written, beside: &mut u64) -> u32
 }
 
 #[no_mangle]
-pub extern "C" fn kuj_write_vlr(control: &mut [u64; 5], value: u32, beside: &mut u64) -> u32
+pub extern "C" fn kuj_write_vlr(control: &mut [u64; 5], value: u64, beside: &mut u64) -> u32
     ensures { λ r. ⌜ (answer r (now (beside .exit)), now (control .exit)) ≡ written (now (control .entry)) (vlrWritten (controlOf (now (control .entry))) value) ⌝ }
 {
-    let after = lent::lend_vlr(record::of(control), value);
+    let after = control::write_vlr(record::of(control), value);
     alter(control, after, beside)
 }
 
 #[no_mangle]
-pub extern "C" fn kuj_write_vcr(control: &mut [u64; 5], value: u32, beside: &mut u64) -> u32
+pub extern "C" fn kuj_write_vcr(control: &mut [u64; 5], value: u64, beside: &mut u64) -> u32
     ensures { λ r. ⌜ (answer r (now (beside .exit)), now (control .exit)) ≡ written (now (control .entry)) (vcrWritten (controlOf (now (control .entry))) value) ⌝ }
 {
-    let after = lent::lend_vcr(record::of(control), value);
+    let after = control::write_vcr(record::of(control), value);
     alter(control, after, beside)
 }
 
@@ -88,7 +88,7 @@ pub extern "C" fn kuj_write_vcr(control: &mut [u64; 5], value: u32, beside: &mut
 pub extern "C" fn kuj_write_vmr_low(control: &mut [u64; 5], value: u32, beside: &mut u64) -> u32
     ensures { λ r. ⌜ (answer r (now (beside .exit)), now (control .exit)) ≡ written (now (control .entry)) (vmrLowWritten (controlOf (now (control .entry))) value) ⌝ }
 {
-    let after = lent::lend_vmr_low(record::of(control), value);
+    let after = control::write_vmr_low(record::of(control), value);
     alter(control, after, beside)
 }
 
@@ -96,7 +96,7 @@ pub extern "C" fn kuj_write_vmr_low(control: &mut [u64; 5], value: u32, beside: 
 pub extern "C" fn kuj_write_vmr_high(control: &mut [u64; 5], value: u32, beside: &mut u64) -> u32
     ensures { λ r. ⌜ (answer r (now (beside .exit)), now (control .exit)) ≡ written (now (control .entry)) (vmrHighWritten (controlOf (now (control .entry))) value) ⌝ }
 {
-    let after = lent::lend_vmr_high(record::of(control), value);
+    let after = control::write_vmr_high(record::of(control), value);
     alter(control, after, beside)
 }
 
@@ -104,7 +104,7 @@ pub extern "C" fn kuj_write_vmr_high(control: &mut [u64; 5], value: u32, beside:
 pub extern "C" fn kuj_write_vpsr(control: &mut [u64; 5], value: u32, beside: &mut u64) -> u32
     ensures { λ r. ⌜ (answer r (now (beside .exit)), now (control .exit)) ≡ written (now (control .entry)) (vpsrWritten (controlOf (now (control .entry))) value) ⌝ }
 {
-    let after = lent::lend_vpsr(record::of(control), value);
+    let after = control::write_vpsr(record::of(control), value);
     alter(control, after, beside)
 }
 

@@ -9,14 +9,14 @@ use Rattle.kujawian.proofs.kuj_write_vcr.Tie as tie
 of-requires : tie.Need-of-requires
 of-requires c κs = search needs
 
-lend-vcr-requires : tie.Need-lend-vcr-requires
-lend-vcr-requires c κs = search needs
+write-vcr-requires : tie.Need-write-vcr-requires
+write-vcr-requires c κs = search needs
 
 alter-requires : tie.Need-alter-requires
 alter-requires c κs = search needs
 
 returns : tie.Need-returns
-returns c = writes (λ (k : Control). vcrWritten k (c .before .before .before .before .before .before .args .value)) _ _ (c .before .before .before .before .of .ensures) _ _ (c .before .before .before .lend-vcr .ensures) (c .alter .ensures)
+returns c = writes (λ (k : Control). vcrWritten k (c .before .before .before .before .before .before .args .value)) _ _ (c .before .before .before .before .of .ensures) _ _ (c .before .before .before .write-vcr .ensures) (c .alter .ensures)
 
 pub kuj-write-vcr-spec : {M : Type 1} → statement M
-kuj-write-vcr-spec = tie.close (tie.spec of-requires lend-vcr-requires alter-requires returns)
+kuj-write-vcr-spec = tie.close (tie.spec of-requires write-vcr-requires alter-requires returns)

@@ -9,14 +9,14 @@ use Rattle.kujawian.proofs.kuj_write_vlr.Tie as tie
 of-requires : tie.Need-of-requires
 of-requires c κs = search needs
 
-lend-vlr-requires : tie.Need-lend-vlr-requires
-lend-vlr-requires c κs = search needs
+write-vlr-requires : tie.Need-write-vlr-requires
+write-vlr-requires c κs = search needs
 
 alter-requires : tie.Need-alter-requires
 alter-requires c κs = search needs
 
 returns : tie.Need-returns
-returns c = writes (λ (k : Control). vlrWritten k (c .before .before .before .before .before .before .args .value)) _ _ (c .before .before .before .before .of .ensures) _ _ (c .before .before .before .lend-vlr .ensures) (c .alter .ensures)
+returns c = writes (λ (k : Control). vlrWritten k (c .before .before .before .before .before .before .args .value)) _ _ (c .before .before .before .before .of .ensures) _ _ (c .before .before .before .write-vlr .ensures) (c .alter .ensures)
 
 pub kuj-write-vlr-spec : {M : Type 1} → statement M
-kuj-write-vlr-spec = tie.close (tie.spec of-requires lend-vlr-requires alter-requires returns)
+kuj-write-vlr-spec = tie.close (tie.spec of-requires write-vlr-requires alter-requires returns)

@@ -9,14 +9,14 @@ use Rattle.kujawian.proofs.kuj_write_vpsr.Tie as tie
 of-requires : tie.Need-of-requires
 of-requires c κs = search needs
 
-lend-vpsr-requires : tie.Need-lend-vpsr-requires
-lend-vpsr-requires c κs = search needs
+write-vpsr-requires : tie.Need-write-vpsr-requires
+write-vpsr-requires c κs = search needs
 
 alter-requires : tie.Need-alter-requires
 alter-requires c κs = search needs
 
 returns : tie.Need-returns
-returns c = writes (λ (k : Control). vpsrWritten k (c .before .before .before .before .before .before .args .value)) _ _ (c .before .before .before .before .of .ensures) _ _ (c .before .before .before .lend-vpsr .ensures) (c .alter .ensures)
+returns c = writes (λ (k : Control). vpsrWritten k (c .before .before .before .before .before .before .args .value)) _ _ (c .before .before .before .before .of .ensures) _ _ (c .before .before .before .write-vpsr .ensures) (c .alter .ensures)
 
 pub kuj-write-vpsr-spec : {M : Type 1} → statement M
-kuj-write-vpsr-spec = tie.close (tie.spec of-requires lend-vpsr-requires alter-requires returns)
+kuj-write-vpsr-spec = tie.close (tie.spec of-requires write-vpsr-requires alter-requires returns)
