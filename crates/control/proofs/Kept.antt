@@ -21,12 +21,14 @@ refused-number write.Disabled r e = omega arith
 refused-number write.ValueRefused r e = omega arith
 
 kept : (ranged allowed accepted : Bool) (c next d : Control) (w : Write) → T (not (isDone w))
-    → outcome (writeAnswer w) d ≡ pick ranged (pick allowed (pick accepted (outcome (done 0) next) (outcome valueRefused c)) (outcome disabled c)) (outcome outOfRange c) → c ≡ d
+    → outcome (writeAnswer w) d
+    ≡ pick ranged (pick allowed (pick accepted (outcome (done 0) next) (outcome valueRefused c)) (outcome disabled c)) (outcome outOfRange c) → c ≡ d
 kept true true true c next d w r e = absurd (refused-number w r (ap (λ (o : Outcome). o .answer .number) e))
 kept true true false c next d w r e = sym (ap (λ (o : Outcome). o .control) e)
 kept true false accepted c next d w r e = sym (ap (λ (o : Outcome). o .control) e)
 kept false allowed accepted c next d w r e = sym (ap (λ (o : Outcome). o .control) e)
 
-pub refused-keeps : (allowed accepted : Bool) (c next : Control) (w : Written) → outcomeOf w ≡ writeWhen allowed accepted c next → T (not (isDone (w .answer))) → c ≡ w .control
+pub refused-keeps : (allowed accepted : Bool) (c next : Control) (w : Written)
+    → outcomeOf w ≡ writeWhen allowed accepted c next → T (not (isDone (w .answer))) → c ≡ w .control
 unfolding writeWhen
 refused-keeps allowed accepted c next w e r = kept (inRange c) allowed accepted c next (w .control) (w .answer) r e

@@ -216,7 +216,8 @@ module _ (w : Width) (written : Control → ℕ → Outcome) where
       abbrev to-answer : Write → Val → OfWrite 𝓤 H A at-mem run .Ghost
       to-answer a v = (((μ, tt), (p, tt), tt, (a, (y, tt)), (v ∷ [], (vptr d u ∷ [], tt))), tt)
 
-      goes-answer : (a : Write) (v : Val) → Is N.the-row a (v ∷ []) → ent 𝓤 (sep 𝓤 (mean 𝓤 H A token) (mean 𝓤 H A lent)) (OfWrite 𝓤 H A at-mem run .pre (to-answer a v))
+      goes-answer : (a : Write) (v : Val) → Is N.the-row a (v ∷ [])
+          → ent 𝓤 (sep 𝓤 (mean 𝓤 H A token) (mean 𝓤 H A lent)) (OfWrite 𝓤 H A at-mem run .pre (to-answer a v))
       goes-answer a v is =
           qed W (token ∷ lent ∷ []) ∵ nothing ! $ move ! (2 ∷ 0 ∷ []) $ fjoin ! $
           owned ! N.the-row (Is N.the-row) (EL.makes N.the-type N′.the-plain 𝓤 H A) a _ is $ fjoin ! $ move ! (1 ∷ 0 ∷ []) $ join ! $
@@ -242,8 +243,9 @@ module _ (w : Width) (written : Control → ℕ → Outcome) where
 
           -- where r came back and t is the test: the locals, the last first
           abbrev Locals : Written → Bool → List (Item 𝓤)
-          Locals r t = empty again-ref l₇ (filled tyBool l₆ (vbool t) (filled T′.mir l₅ (LL.val T.the-type T′.the-laws h) (filled R′.mir l₄ (LL.val R.the-type R′.the-laws r)
-              (filled beside-ref l₃ (vptr d u) (filled (tyInt w) l₂ (vint w n) (filled record-ref l₁ (vptr b o) (empty (tyInt w32) l₀ [])))))))
+          Locals r t = empty again-ref l₇ (filled tyBool l₆ (vbool t) (filled T′.mir l₅ (LL.val T.the-type T′.the-laws h)
+              (filled R′.mir l₄ (LL.val R.the-type R′.the-laws r) (filled beside-ref l₃ (vptr d u)
+              (filled (tyInt w) l₂ (vint w n) (filled record-ref l₁ (vptr b o) (empty (tyInt w32) l₀ [])))))))
 
           -- the cell of the record, which is c now, and the borrow that is open; what is had of `beside`; the locals
           abbrev After : Written → Control → Bool → List (Item 𝓤)
@@ -251,83 +253,105 @@ module _ (w : Width) (written : Control → ℕ → Outcome) where
               ∷ ‵ (fobs γ (T.the-row .coded .code h)) ∷ ‵ (fauth γ (T.the-row .coded .code h)) ∷ token ∷ lent ∷ ‵ ftrue ∷ Locals r t
 
           -- what follows the branch, with the record c where it stands
-          leaves : (r : Written) (vs : List Val) → Is R.the-row r vs → (c : Control) (t : Bool) → outcome (writeAnswer (r .answer)) c ≡ written h n → Is T.the-row c (vals c)
-              → Sq W (After r c t) (runs C Λ E rest (atRet E Post))
+          leaves : (r : Written) (vs : List Val) → Is R.the-row r vs → (c : Control) (t : Bool)
+              → outcome (writeAnswer (r .answer)) c ≡ written h n → Is T.the-row c (vals c) → Sq W (After r c t) (runs C Λ E rest (atRet E Post))
           leaves r vs is c t e c-is =
               -- the borrow is closed
               owned ! T.the-row (Is T.the-row) (LL.makes T.the-type T′.the-plain 𝓤 H A) c _ c-is $ move ! (1 ∷ 0 ∷ []) $ closes ! tt T.the-row c (vals c) b o $
               -- [obs; the borrow; its token; `beside`'s token; what it owns; true; _7; …; _6; …; _5; …; _4; …; _3; …; _2; …; _1; …; room for _0; …]
               assigns ! (addr ! (from ! (hop ! (look ! 14 refl) (stop !)))) (from ! (stop !)) (init ! 6 refl (tt, tt)) $
-              move ! (3 ∷ 4 ∷ []) $ use2 W (raw (OfWrite 𝓤 H A at-mem run .pre (to-answer (r .answer) _))) (goes-answer (r .answer) _ (LL.owed R.the-type R′.the-laws r _ is .0)) $
+              move ! (3 ∷ 4 ∷ []) $ use2 W (raw (OfWrite 𝓤 H A at-mem run .pre (to-answer (r .answer) _)))
+              (goes-answer (r .answer) _ (LL.owed R.the-type R′.the-laws r _ is .0)) $
               -- [what `of_write` asks; obs; the borrow; its token; true; _7; …; _6; …; _5; …; _4; …; _3; …; _2; …; _1; …; room for _0; …]
               calls-at ! fm (OfWrite 𝓤 H A at-mem run) answers (to-answer (r .answer) _)
-              (and-then ! (load ! (from ! (fld ! refl (stop !))) (look-in ! 11 (sub ! 0 refl (whole !)))) (and-then ! (load ! (from ! (stop !)) (look ! 5 refl)) (no-more !))) (λ v.
+              (and-then ! (load ! (from ! (fld ! refl (stop !))) (look-in ! 11 (sub ! 0 refl (whole !))))
+              (and-then ! (load ! (from ! (stop !)) (look ! 5 refl)) (no-more !))) (λ v.
               use1 W (later (some (λ (k : ℕ). (token ⊛ ‵ (u32 .own k (v ∷ [])))
-              ⊛ raw (ensured 𝓤 H A of-write.ended (of-write.clauses 𝓤 H A at-mem run) (μ, tt) (r .answer, (y, tt)) tt k)))) (id⊢ 𝓤 _) $ await ! tt $ pick ! (λ k.
+              ⊛ raw (ensured 𝓤 H A of-write.ended (of-write.clauses 𝓤 H A at-mem run) (μ, tt) (r .answer, (y, tt)) tt k)))) (id⊢ 𝓤 _) $
+              await ! tt $ pick ! (λ k.
               -- what it ensures, at some last number beside
               split ! $ move ! (1 ∷ []) $ use1 W (some (λ (z : Unit {0} × (ℕ × Unit {0})). ‵ (lasts of-write.ended (μ, tt) (r .answer, (y, tt)) z)
               ⊛ raw (fact 𝓤 (answer k (z .1 .0) ≡ writeAnswer (r .answer))))) (id⊢ 𝓤 _) $ pick ! (λ z.
-              split ! $ move ! (1 ∷ []) $ heard ! (answer k (z .1 .0) ≡ writeAnswer (r .answer)) (λ a. fsplit ! $ drop ! $ fsplit ! $ move ! (2 ∷ []) $ split ! $ move ! (1 ∷ []) $
-              -- [the number; `beside`'s token; its last number; true; obs; the borrow; its token; true; _7; …; _6; …; _5; …; _4; …; _3; …; _2; …; _1; …; room for _0; …]
-              peeks ! u32 (Is u32) (shows 𝓤 H A u32) k (v ∷ []) (λ k-is. land ! (from ! (stop !)) (init ! 22 refl (uint-lawful 𝓤 H A W w32 .typed k _ k-is .0)) $
-              returns ! (look ! 22 refl) $ forget ! 8 refl $ forget ! 10 refl $ forget ! 12 refl $ forget ! 14 refl $ forget ! 16 refl $ forget ! 18 refl $ forget ! 20 refl $
-              forget ! 22 refl $ move ! (22 ∷ 23 ∷ []) $ free1 ! $ move ! (20 ∷ 21 ∷ []) $ free1 ! $ move ! (18 ∷ 19 ∷ []) $ free1 ! $ move ! (16 ∷ 17 ∷ []) $ free1 ! $
-              move ! (14 ∷ 15 ∷ []) $ free1 ! $ move ! (12 ∷ 13 ∷ []) $ free1 ! $ move ! (10 ∷ 11 ∷ []) $ free1 ! $ move ! (8 ∷ 9 ∷ []) $ free1 ! $ free0 ! $
+              split ! $ move ! (1 ∷ []) $ heard ! (answer k (z .1 .0) ≡ writeAnswer (r .answer)) (λ a.
+              fsplit ! $ drop ! $ fsplit ! $ move ! (2 ∷ []) $ split ! $ move ! (1 ∷ []) $
+              -- [the number; `beside`'s token; its last number; true; obs; the borrow; its token; true; _7; …; _6; …; … _1; …; room for _0; …]
+              peeks ! u32 (Is u32) (shows 𝓤 H A u32) k (v ∷ []) (λ k-is.
+              land ! (from ! (stop !)) (init ! 22 refl (uint-lawful 𝓤 H A W w32 .typed k _ k-is .0)) $
+              returns ! (look ! 22 refl) $ forget ! 8 refl $ forget ! 10 refl $ forget ! 12 refl $ forget ! 14 refl $ forget ! 16 refl $ forget ! 18 refl $
+              forget ! 20 refl $ forget ! 22 refl $ move ! (22 ∷ 23 ∷ []) $ free1 ! $ move ! (20 ∷ 21 ∷ []) $ free1 ! $ move ! (18 ∷ 19 ∷ []) $ free1 ! $
+              move ! (16 ∷ 17 ∷ []) $ free1 ! $ move ! (14 ∷ 15 ∷ []) $ free1 ! $ move ! (12 ∷ 13 ∷ []) $ free1 ! $ move ! (10 ∷ 11 ∷ []) $ free1 ! $
+              move ! (8 ∷ 9 ∷ []) $ free1 ! $ free0 ! $
               keep ! (4 ∷ 5 ∷ 6 ∷ 1 ∷ 2 ∷ 0 ∷ []) $ by ! (exits c k (z .1 .0) v (ap (λ (x : Answer). outcome x c) a ∙ e)))))))
 
-          -- the branch: the record that came back is stored; or the write was refused, nothing is stored, and the record that came back is the one that stands there
+          -- the branch: the record that came back is stored; or the write was refused, and the one that stands there is the one that came back
           chosen : (r : Written) (vs : List Val) → Is R.the-row r vs → outcomeOf r ≡ written h n → Is T.the-row h (vals h) → (t : Bool) → t ≡ isDone (r .answer)
               → Sq W (After r h t) (runs C Λ E (seq store rest) (atRet E Post))
           chosen r vs is e was t tested =
               first ! $ branches ! (load ! (from ! (stop !)) (look ! 9 refl))
-              (λ _. assigns-last ! (of-opd ! (load ! (from ! (fld ! refl (stop !))) (look-in ! 13 (sub ! 1 refl (whole !))))) (from ! (hop ! (look ! 19 refl) (stop !)))
+              (λ _. assigns-last ! (of-opd ! (load ! (from ! (fld ! refl (stop !))) (look-in ! 13 (sub ! 1 refl (whole !)))))
+              (from ! (hop ! (look ! 19 refl) (stop !)))
               (store-raw ! 0 refl (LL.lawful T.the-type T′.the-laws 𝓤 H A W .typed (r .control) _ (LL.owed R.the-type R′.the-laws r _ is .1 .0) .0)) $
               exec ! C Λ E rest (atRet E Post) $ leaves r vs is (r .control) t e (LL.owed R.the-type R′.the-laws r _ is .1 .0))
               (λ refused. skips ! $ exec ! C Λ E rest (atRet E Post) $
               leaves r vs is h t (ap (outcome (writeAnswer (r .answer))) (keeps h n r e (subst (λ (s : Bool). Holds (not s)) tested refused)) ∙ e) was)
 
-        walk : ent 𝓤 (onEntry 𝓤 H A (in-place w .signature) (κ, (μ, tt)) (q, (p, tt)) (bound .0 .3) (bound .0 .4)) (WpFn 𝓤 H C Λ (function w g) (vptr b o ∷ vint w n ∷ vptr d u ∷ []) Post)
+        walk : ent 𝓤 (onEntry 𝓤 H A (in-place w .signature) (κ, (μ, tt)) (q, (p, tt)) (bound .0 .3) (bound .0 .4))
+            (WpFn 𝓤 H C Λ (function w g) (vptr b o ∷ vint w n ∷ vptr d u ∷ []) Post)
         walk =
             qed W ((‵ (flft κ q) ⊛ token) ∷ ‵ (owns (MutRef (named 0) κ T.the-row ∷ UInt w ∷ MutRef (named 1) μ u64 ∷ []) (bound .0 .3) (bound .0 .4)) ∷ []) ∵
             enter ! C Λ (function w g) (vptr b o ∷ vint w n ∷ vptr d u ∷ []) _ $
-            alloc1 ! (λ l₀. alloc1 ! (λ l₁. alloc1 ! (λ l₂. alloc1 ! (λ l₃. alloc1 ! (λ l₄. alloc1 ! (λ l₅. alloc1 ! (λ l₆. alloc1 ! (λ l₇. alloc0 ! $ params1 ! $
-            pass1 ! (init ! 12 refl (tt, tt)) $ pass1 ! (init ! 10 refl (uint-lawful 𝓤 H A W w .typed n _ (refl, n-fits) .0)) $ pass1 ! (init ! 8 refl (tt, tt)) $ pass0 ! $
+            alloc1 ! (λ l₀. alloc1 ! (λ l₁. alloc1 ! (λ l₂. alloc1 ! (λ l₃. alloc1 ! (λ l₄. alloc1 ! (λ l₅. alloc1 ! (λ l₆. alloc1 ! (λ l₇. alloc0 ! $
+            params1 ! $ pass1 ! (init ! 12 refl (tt, tt)) $ pass1 ! (init ! 10 refl (uint-lawful 𝓤 H A W w .typed n _ (refl, n-fits) .0)) $
+            pass1 ! (init ! 8 refl (tt, tt)) $ pass0 ! $
             -- the borrow of the record is opened
-            move ! (17 ∷ []) $ fsplit ! $ fsplit3 ! $ drop ! $ move ! (2 ∷ []) $ fsplit ! $ drop ! $ fsplit ! $ move ! (20 ∷ []) $ split ! $ move ! (4 ∷ 5 ∷ 0 ∷ []) $
-            opens ! tt T.the-row {h = h} b o (λ vs. spelt ! T.the-row (Is T.the-row) (shows 𝓤 H A T.the-row) vals (LL.tells T.the-type T′.the-laws) fullShare h vs b o $
+            move ! (17 ∷ []) $ fsplit ! $ fsplit3 ! $ drop ! $ move ! (2 ∷ []) $ fsplit ! $ drop ! $ fsplit ! $ move ! (20 ∷ []) $ split ! $
+            move ! (4 ∷ 5 ∷ 0 ∷ []) $ opens ! tt T.the-row {h = h} b o (λ vs.
+            spelt ! T.the-row (Is T.the-row) (shows 𝓤 H A T.the-row) vals (LL.tells T.the-type T′.the-laws) fullShare h vs b o $
             move ! (1 ∷ []) $ peeks ! T.the-row (Is T.the-row) (shows 𝓤 H A T.the-row) h (vals h) (λ was.
-            -- [what a Control owns; its cell; the open borrow; obs; auth; `beside`'s token; what it owns; true; _7; …; _6; …; _5; …; _4; …; _3; …; _2; …; _1; …; room for _0; …]
+            -- [what a Control owns; its cell; the open borrow; obs; auth; `beside`'s token; what it owns; true; _7; …; _6; …; … _1; …; room for _0; …]
             assigns ! (of-opd ! (load ! (from ! (hop ! (look ! 20 refl) (stop !))) (look-raw ! 1 refl))) (from ! (stop !))
             (init ! 12 refl (LL.lawful T.the-type T′.the-laws 𝓤 H A W .typed h _ was .0)) $
             -- `control::write_x`: the record r comes back
             use1 W (raw (ByValue 𝓤 H A .pre to-write)) goes-write $ calls-at ! fm (ByValue 𝓤 H A) known to-write
             (and-then ! (load ! (from ! (stop !)) (look ! 12 refl)) (and-then ! (load ! (from ! (stop !)) (look ! 18 refl)) (no-more !))) (λ v.
-            use1 W (later (some (λ (r : Written). (‵ ftrue ⊛ ‵ (R.the-row .own r (v ∷ []))) ⊛ raw (ensured 𝓤 H A (by-value w) (by-value-clauses 𝓤) tt (h, (n, tt)) tt r)))) (id⊢ 𝓤 _) $
-            await ! tt $ pick ! (λ r. split ! $ move ! (1 ∷ []) $
-            use1 W (raw (fact 𝓤 (outcomeOf r ≡ written h n))) (told 𝓤 H A (by-value w) tt (h, (n, tt)) _) $ heard ! (outcomeOf r ≡ written h n) (λ e. split ! $ drop ! $
+            use1 W (later (some (λ (r : Written). (‵ ftrue ⊛ ‵ (R.the-row .own r (v ∷ [])))
+            ⊛ raw (ensured 𝓤 H A (by-value w) (by-value-clauses 𝓤) tt (h, (n, tt)) tt r)))) (id⊢ 𝓤 _) $ await ! tt $ pick ! (λ r. split ! $ move ! (1 ∷ []) $
+            use1 W (raw (fact 𝓤 (outcomeOf r ≡ written h n))) (told 𝓤 H A (by-value w) tt (h, (n, tt)) _) $
+            heard ! (outcomeOf r ≡ written h n) (λ e. split ! $ drop ! $
             facts ! R.the-row (Is R.the-row) (shows 𝓤 H A R.the-row) r (v ∷ []) (λ is.
             land ! (from ! (stop !)) (init ! 13 refl (LL.lawful R.the-type R′.the-laws 𝓤 H A W .typed r _ is .0)) $
             rewrite ! 13 (λ (u : Val). ‵ (fat fullShare R′.mir l₄ 0 u)) (ap only (LL.tells R.the-type R′.the-laws r (v ∷ []) is)) refl $
-            -- [the Control's cell; the open borrow; obs; auth; `beside`'s token; what it owns; true; _7; …; _6; …; _5; …; _4; …; _3; …; _2; …; _1; …; room for _0; …]
+            -- [the Control's cell; the open borrow; obs; auth; `beside`'s token; what it owns; true; _7; …; _6; …; … _1; …; room for _0; …]
             -- `control::is_done`: the test t
             use0 W (raw (IsDone 𝓤 H A at-mem run .pre (to-test (r .answer) _))) (goes-test (r .answer) _ (LL.owed R.the-type R′.the-laws r _ is .0)) $
-            calls-at ! fm (IsDone 𝓤 H A at-mem run) tests (to-test (r .answer) _) (and-then ! (load ! (from ! (fld ! refl (stop !))) (look-in ! 14 (sub ! 0 refl (whole !)))) (no-more !)) (λ s.
+            calls-at ! fm (IsDone 𝓤 H A at-mem run) tests (to-test (r .answer) _)
+            (and-then ! (load ! (from ! (fld ! refl (stop !))) (look-in ! 14 (sub ! 0 refl (whole !)))) (no-more !)) (λ s.
             use1 W (later (some (λ (t : Bool). (‵ ftrue ⊛ ‵ (Boolean .own t (s ∷ [])))
-            ⊛ raw (ensured 𝓤 H A is-done.ended (is-done.clauses 𝓤 H A at-mem run) tt (r .answer, tt) tt t)))) (id⊢ 𝓤 _) $ await ! tt $ pick ! (λ t. split ! $ move ! (1 ∷ []) $
-            use1 W (raw (fact 𝓤 (t ≡ isDone (r .answer)))) (told 𝓤 H A is-done.ended tt (r .answer, tt) _) $ heard ! (t ≡ isDone (r .answer)) (λ tested. split ! $ drop ! $
-            facts ! Boolean (Is Boolean) (shows 𝓤 H A Boolean) t (s ∷ []) (λ t-is. land ! (from ! (stop !)) (init ! 9 refl (bool-lawful 𝓤 H A W .typed t _ t-is .0)) $
-            rewrite ! 9 (λ (u : Val). ‵ (fat fullShare tyBool l₆ 0 u)) (ap only t-is) refl $ chosen l₀ l₁ l₂ l₃ l₄ l₅ l₆ l₇ r _ is e was t tested))))))))))))))))))
+            ⊛ raw (ensured 𝓤 H A is-done.ended (is-done.clauses 𝓤 H A at-mem run) tt (r .answer, tt) tt t)))) (id⊢ 𝓤 _) $
+            await ! tt $ pick ! (λ t. split ! $ move ! (1 ∷ []) $
+            use1 W (raw (fact 𝓤 (t ≡ isDone (r .answer)))) (told 𝓤 H A is-done.ended tt (r .answer, tt) _) $
+            heard ! (t ≡ isDone (r .answer)) (λ tested. split ! $ drop ! $ facts ! Boolean (Is Boolean) (shows 𝓤 H A Boolean) t (s ∷ []) (λ t-is.
+            land ! (from ! (stop !)) (init ! 9 refl (bool-lawful 𝓤 H A W .typed t _ t-is .0)) $
+            rewrite ! 9 (λ (u : Val). ‵ (fat fullShare tyBool l₆ 0 u)) (ap only t-is) refl $
+            chosen l₀ l₁ l₂ l₃ l₄ l₅ l₆ l₇ r _ is e was t tested))))))))))))))))))
 
     module _ (H : Heap 𝓤) (A : Atoms 𝓤) (W : Given 𝓤 H A) (at-mem : Memory → SProp 𝓤) (run : Routine → Fun 𝓤) (𝓣 : Tables 𝓤 H) (g : Name)
-        (known : Triple 𝓤 (𝓣 .C g) (ByValue 𝓤 H A)) (tests : Triple 𝓤 (𝓣 .C #is-done) (IsDone 𝓤 H A at-mem run)) (answers : Triple 𝓤 (𝓣 .C #of-write) (OfWrite 𝓤 H A at-mem run)) where
+        (known : Triple 𝓤 (𝓣 .C g) (ByValue 𝓤 H A))
+        (tests : Triple 𝓤 (𝓣 .C #is-done) (IsDone 𝓤 H A at-mem run)) (answers : Triple 𝓤 (𝓣 .C #of-write) (OfWrite 𝓤 H A at-mem run)) where
       walks : Walks 𝓤 H A (in-place w) (stayed w) (WpFn 𝓤 H (𝓣 .C) (𝓣 .Λ) (function w g)) clauses
       walks = walked 𝓤 H A (in-place w) (stayed w) clauses (WpFn 𝓤 H (𝓣 .C) (𝓣 .Λ) (function w g)) (λ κs. (ptr-vals, (uint-vals w, (ptr-vals, tt))))
           (λ κs. (mut-tells (named 0) (κs .0) T.the-row, (uint-tells w, (mut-tells (named 1) (κs .1 .0) u64, tt))))
           (λ κs qs bounds a _ are. via 𝓤 _ (fst∗ 𝓤 _ (emp 𝓤)) (walk H A W at-mem run
-          (κs .0) (qs .0) (a .0 .ptr .0) (a .0 .ptr .1) (a .0 .name) (a .0 .now) (κs .1 .0) (qs .1 .0) (a .1 .1 .0 .ptr .0) (a .1 .1 .0 .ptr .1) (a .1 .1 .0 .name) (a .1 .1 .0 .now)
+          (κs .0) (qs .0) (a .0 .ptr .0) (a .0 .ptr .1) (a .0 .name) (a .0 .now)
+          (κs .1 .0) (qs .1 .0) (a .1 .1 .0 .ptr .0) (a .1 .1 .0 .ptr .1) (a .1 .1 .0 .name) (a .1 .1 .0 .now)
           (a .1 .0) (are .1 .0 .1) (𝓣 .C) (𝓣 .Λ) (fmOf 𝓤 H (W .laws) 𝓣) g known tests answers))
 
       pub meets : Meets 𝓤 H A (in-place w .signature) (WpFn 𝓤 H (𝓣 .C) (𝓣 .Λ) (function w g)) (closing 𝓤 H A (in-place w) clauses)
-      meets = walk-meets 𝓤 H A (in-place w) (stayed w) W
-          (goes-ref 𝓤 H A W 2 0 tt (plain (λ _. T.the-row)), (goes-none 𝓤 H A W 2 (λ _. UInt w) yes (λ κs x f. refl), (goes-gave-ref 𝓤 H A W 2 1 tt (plain (λ _. u64)), tt)))
-          clauses (WpFn 𝓤 H (𝓣 .C) (𝓣 .Λ) (function w g)) (WpFn-mono 𝓤 H (W .laws) 𝓣 (function w g)) walks
+      meets = walk-meets 𝓤 H A (in-place w) (stayed w) W (
+        goes-ref 𝓤 H A W 2 0 tt (plain (λ _. T.the-row)),
+        (
+          goes-none 𝓤 H A W 2 (λ _. UInt w) yes (λ κs x f. refl),
+          (goes-gave-ref 𝓤 H A W 2 1 tt (plain (λ _. u64)), tt),
+        ),
+      ) clauses
+          (WpFn 𝓤 H (𝓣 .C) (𝓣 .Λ) (function w g)) (WpFn-mono 𝓤 H (W .laws) 𝓣 (function w g)) walks

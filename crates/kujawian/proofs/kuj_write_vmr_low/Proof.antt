@@ -30,6 +30,9 @@ kuj-write-vmr-low-spec 𝓤 H 𝓜 𝓖 𝓡 =
     -- what the definition says of the number, of what stands beside it and of the record is what is promised
     (λ κs x n y number beside c e. factI 𝓤 _ (emp 𝓤) e)
     H (𝓖 .A) (givenOf 𝓤 H 𝓜 𝓖) (𝓜 .mem) (𝓡 .run) (tablesOf 𝓤 H 𝓜 (tables 𝓤 H 𝓜 𝓡 code.env)) write-def.name
-    (cited 𝓤 H (ByValue width written 𝓤 H (𝓖 .A)) 𝓜 𝓡 code.env write-def.name write-def.routine code.calls-control·write-vmr-low (write-thm.met 𝓤 H 𝓜 𝓖 𝓡))
-    (cited 𝓤 H (IsDone 𝓤 H (𝓖 .A) (𝓜 .mem) (𝓡 .run)) 𝓜 𝓡 code.env test-def.name test-def.routine code.calls-control·is-done (test-thm.met 𝓤 H 𝓜 𝓖 𝓡))
-    (cited 𝓤 H (OfWrite 𝓤 H (𝓖 .A) (𝓜 .mem) (𝓡 .run)) 𝓜 𝓡 code.env answer-def.name answer-def.routine code.calls-kujawian·answers·of-write (answer-thm.met 𝓤 H 𝓜 𝓖 𝓡)))
+    (cited 𝓤 H (ByValue width written 𝓤 H (𝓖 .A)) 𝓜 𝓡 code.env write-def.name write-def.routine
+    code.calls-control·write-vmr-low (write-thm.met 𝓤 H 𝓜 𝓖 𝓡))
+    (cited 𝓤 H (IsDone 𝓤 H (𝓖 .A) (𝓜 .mem) (𝓡 .run)) 𝓜 𝓡 code.env test-def.name test-def.routine
+    code.calls-control·is-done (test-thm.met 𝓤 H 𝓜 𝓖 𝓡))
+    (cited 𝓤 H (OfWrite 𝓤 H (𝓖 .A) (𝓜 .mem) (𝓡 .run)) 𝓜 𝓡 code.env answer-def.name answer-def.routine
+    code.calls-kujawian·answers·of-write (answer-thm.met 𝓤 H 𝓜 𝓖 𝓡)))
