@@ -1,6 +1,6 @@
 -- Document 01, "Control moves": VLR, VCR and each half of VMR are read and written by calls of their own; VAER and VPSR are read, VPSR is written.
 -- Order of checks: 12, 3, 11. VPSR and VAER are read even when disabled, and a VPSR write is never refused as disabled.
-use mathlib.Core.Bool.{Bool, true, _&&_, _||_}
+use mathlib.Core.Bool.{Bool, true, false, _&&_, _||_}
 use Prim.Native.Nat.{ℕ, _+_, _*_, _/_, _%_, _^_}
 use lib.Dec.{leb, eqb}
 use Rattle.numbers.specs.Choice.{pick}
@@ -26,6 +26,13 @@ writeAnswer write.Done = done 0
 writeAnswer write.StateOutOfRange = outOfRange
 writeAnswer write.Disabled = disabled
 writeAnswer write.ValueRefused = valueRefused
+
+-- a write that was done, and not refused
+abbrev pub isDone : Write → Bool
+isDone write.Done = true
+isDone write.StateOutOfRange = false
+isDone write.Disabled = false
+isDone write.ValueRefused = false
 
 -- what a write gives back, and the record it leaves
 pub record Outcome : Type 0 where

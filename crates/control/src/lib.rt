@@ -1,6 +1,6 @@
 // Control moves: the control record goes in by value, and a write gives it back.
 ghost use mathlib.Core.Path.{_≡_};
-ghost use Rattle.control.specs.Moves.{readAnswer, outcomeOf, readWhen, readEnabled, writeWhen, writeEnabled, vlrRead, vcrRead, vmrLowRead, vmrHighRead, vaerRead, vpsrRead, vlrWritten, vcrWritten, vmrLowWritten, vmrHighWritten, vpsrAccepted, withStatus, afterReset, afterAex, afterVen, withVpsr, vpsrWritten};
+ghost use Rattle.control.specs.Moves.{readAnswer, isDone, outcomeOf, readWhen, readEnabled, writeWhen, writeEnabled, vlrRead, vcrRead, vmrLowRead, vmrHighRead, vaerRead, vpsrRead, vlrWritten, vcrWritten, vmrLowWritten, vmrHighWritten, vpsrAccepted, withStatus, afterReset, afterAex, afterVen, withVpsr, vpsrWritten};
 use numbers::halves;
 use state::Control;
 
@@ -17,6 +17,18 @@ pub enum Write {
     StateOutOfRange,
     Disabled,
     ValueRefused,
+}
+
+// A write was done, and not refused.
+pub fn is_done(given: Write) -> bool
+    ensures { λ r. ⌜ r ≡ isDone given ⌝ }
+{
+    match given {
+        Write::Done => true,
+        Write::StateOutOfRange => false,
+        Write::Disabled => false,
+        Write::ValueRefused => false,
+    }
 }
 
 // The answer of a write, and the record after it.
@@ -122,19 +134,19 @@ fn write_enabled(accepted: bool, control: Control, next: Control) -> Written
     write_when(state::enabled(control), accepted, control, next)
 }
 
-pub fn write_vlr(control: Control, value: u32) -> Written
-    ensures { λ r. ⌜ outcomeOf r ≡ vlrWritten control value ⌝ }
+// A length or a count comes in as wide as the record keeps it, so that it is tested before anything
+// is cut off.
+pub fn write_vlr(control: Control, length: u64) -> Written
+    ensures { λ r. ⌜ outcomeOf r ≡ vlrWritten control length ⌝ }
 {
-    let length = value as u64;
     let mut next = control;
     next.vlr = length;
     write_enabled(state::length_in_range(length), control, next)
 }
 
-pub fn write_vcr(control: Control, value: u32) -> Written
-    ensures { λ r. ⌜ outcomeOf r ≡ vcrWritten control value ⌝ }
+pub fn write_vcr(control: Control, count: u64) -> Written
+    ensures { λ r. ⌜ outcomeOf r ≡ vcrWritten control count ⌝ }
 {
-    let count = value as u64;
     let mut next = control;
     next.vcr = count;
     write_enabled(state::length_in_range(count), control, next)

@@ -7,10 +7,9 @@ use lib.Seq.{set-getD}
 use Rattle.state.specs.declared.Control.{Control}
 use Rattle.state.specs.Answer.{Answer, answer}
 use Rattle.state.specs.State.{State, state}
-use Rattle.control.specs.Moves.{Outcome, outcome}
 use Rattle.execute.specs.Execute.{Outcome as Executed, outcome as executedWith}
 use Rattle.queue.specs.Run.{Outcome as Ran, outcome as ranWith}
-use Rattle.kujawian.specs.Face.{controlOf, controlInto, stateOf, written, left, ran, executed}
+use Rattle.kujawian.specs.Face.{controlOf, controlInto, stateOf, left, ran, executed}
 
 -- storing what was read changes nothing: a refusal, after which the record is the one handed over, leaves the five numbers as they were
 pub stored-back : (l : List ℕ) → controlInto l (controlOf l) ≡ l
@@ -30,15 +29,6 @@ module _ {A : Type 0} (call : Control → A) (l : List ℕ) (c : Control) (taken
 -- what an answer stands beside
 pub answered : {B : Type 0} (a given : Answer) (x : B) → a ≡ given → _≡_ {A = Answer × B} (a, x) (given, x)
 answered a given x e = ap (λ (y : Answer). (y, x)) e
-
--- a control write
-pub writes : (move : Control → Outcome) (l : List ℕ) (c : Control) → c ≡ controlOf l → (made : Outcome) (a : Answer × List ℕ) → made ≡ move c → a ≡ written l made → a ≡ written l (move (controlOf l))
-writes move l c taken made a e s = gives (λ (k : Control). written l (move k)) l c taken a (written l made) (ap (written l) e) s
-
--- what was answered and stored
-pub altered : (l after : List ℕ) (n b : ℕ) (o : Outcome) → answer n b ≡ o .answer → after ≡ controlInto l (o .control) → (answer n b, after) ≡ written l o
-unfolding written
-altered l after n b o e s = ap (λ (a : Answer). (a, after)) e ∙ ap (λ (m : List ℕ). (o .answer, m)) s
 
 -- a call that alters the state
 pub leaves : (call : Control → Answer × State) (l : List ℕ) (c : Control) → c ≡ controlOf l → (after elements : List ℕ) (next : Control) (n b : ℕ) (a : Answer) → (a, state elements next) ≡ call c
@@ -64,10 +54,6 @@ executes call l c taken after elements window next n b a e s g =
     ∙ ap (executed l) (e ∙ ap call taken)
 
 -- ---- A refusal leaves the state that was handed over, by the definitions below; so nothing but *beside has changed.
-pub write-kept : (l : List ℕ) (a : Answer) → written l (outcome a (controlOf l)) ≡ (a, l)
-unfolding written
-write-kept l a = ap (λ (m : List ℕ). (a, m)) (stored-back l)
-
 pub state-kept : (l elements : List ℕ) (a : Answer) → left l (a, stateOf elements l) ≡ (a, elements, l)
 unfolding left
 state-kept l elements a = ap (λ (m : List ℕ). (a, elements, m)) (stored-back l)

@@ -1,3 +1,4 @@
--- The shape that the calls share, and the numbers of a reading.
+-- The shape that the calls share, the numbers of a reading, and the walk of a control write.
 pub mod Calls
 pub mod Fields
+pub mod Writes

@@ -10,7 +10,6 @@ use Rattle.state.specs.declared.Control.{Control}
 use Rattle.state.specs.Answer.{Answer, done}
 use Rattle.state.specs.State.{State, state, inRange}
 use Rattle.state.specs.Elements.{at}
-use Rattle.control.specs.Moves.{Outcome}
 use Rattle.execute.specs.Execute.{Outcome as Executed}
 use Rattle.queue.specs.Run.{Outcome as Ran}
 use Rattle.panel.specs.Panel.{isField, fieldAnswer, kindShown, bitsShown}
@@ -25,10 +24,6 @@ controlInto l c = set (set (set (set (set l 0 (c .vlr)) 1 (c .vmr)) 2 (c .vcr)) 
 
 abbrev pub stateOf : List ℕ → List ℕ → State
 stateOf elements control = state elements (controlOf control)
-
--- what a control write gives back, and the five numbers after it
-unfoldable pub written : List ℕ → Outcome → Answer × List ℕ
-written control o = (o .answer, controlInto control (o .control))
 
 -- what a call that alters the state gives back, and the elements and the five numbers after it
 unfoldable pub left : List ℕ → Answer × State → Answer × List ℕ × List ℕ

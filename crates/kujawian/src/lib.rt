@@ -1,21 +1,22 @@
 // Every call of Kujawian, exported for C over plain data. Each returns document 01's number and
-// writes what stands beside it; after a refusal nothing else has changed.
+// writes what stands beside it; after a refusal nothing else has changed. To C the control record
+// and its five numbers are the same.
 mod answers;
 mod record;
 
-use control::Written;
 use panel::Panel;
+use state::Control;
 use state::Element;
 use state::Register;
 ghost use mathlib.Core.Path.{_≡_};
 ghost use Rattle.state.specs.Answer.{answer};
-ghost use Rattle.control.specs.Moves.{outcomeOf, vlrRead, vcrRead, vmrLowRead, vmrHighRead, vaerRead, vpsrRead, vlrWritten, vcrWritten, vmrLowWritten, vmrHighWritten, vpsrWritten};
+ghost use Rattle.control.specs.Moves.{outcome, vlrRead, vcrRead, vmrLowRead, vmrHighRead, vaerRead, vpsrRead, vlrWritten, vcrWritten, vmrLowWritten, vmrHighWritten, vpsrWritten};
 ghost use Rattle.execute.specs.Execute.{executedOf};
 ghost use Rattle.queue.specs.Reply.{queue as queueOf};
 ghost use Rattle.queue.specs.Run.{queueRun, walkedRun, orderedRun};
 ghost use Rattle.saved.specs.Save.{saving};
 ghost use Rattle.saved.specs.Load.{loading};
-ghost use Rattle.kujawian.specs.Face.{controlOf, stateOf, written, left, ran, executed, fieldRead};
+ghost use Rattle.kujawian.specs.Face.{controlOf, stateOf, left, ran, executed, fieldRead};
 
 #[no_mangle]
 pub extern "C" fn kuj_read_vlr(control: &[u64; 5], beside: &mut u64) -> u32
@@ -59,53 +60,60 @@ pub extern "C" fn kuj_read_vpsr(control: &[u64; 5], beside: &mut u64) -> u32
     answers::of_read(control::read_vpsr(record::of(control)), beside)
 }
 
-// Stores what a write left.
-fn alter(control: &mut [u64; 5], after: Written, beside: &mut u64) -> u32
-    ensures { λ r. ⌜ (answer r (now (beside .exit)), now (control .exit)) ≡ written (now (control .entry)) (outcomeOf after) ⌝ }
+// The control writes alter the record where the caller keeps it: a refusal stores nothing.
+#[no_mangle]
+pub extern "C" fn kuj_write_vlr(control: &mut Control, value: u64, beside: &mut u64) -> u32
+    ensures { λ r. ⌜ outcome (answer r (now (beside .exit))) (now (control .exit)) ≡ vlrWritten (now (control .entry)) value ⌝ }
 {
-    let given = after.answer;
-    record::store(control, after.control);
-    answers::of_write(given, beside)
+    let after = control::write_vlr(*control, value);
+    if control::is_done(after.answer) {
+        *control = after.control;
+    }
+    answers::of_write(after.answer, beside)
 }
 
 #[no_mangle]
-pub extern "C" fn kuj_write_vlr(control: &mut [u64; 5], value: u32, beside: &mut u64) -> u32
-    ensures { λ r. ⌜ (answer r (now (beside .exit)), now (control .exit)) ≡ written (now (control .entry)) (vlrWritten (controlOf (now (control .entry))) value) ⌝ }
+pub extern "C" fn kuj_write_vcr(control: &mut Control, value: u64, beside: &mut u64) -> u32
+    ensures { λ r. ⌜ outcome (answer r (now (beside .exit))) (now (control .exit)) ≡ vcrWritten (now (control .entry)) value ⌝ }
 {
-    let after = lent::lend_vlr(record::of(control), value);
-    alter(control, after, beside)
+    let after = control::write_vcr(*control, value);
+    if control::is_done(after.answer) {
+        *control = after.control;
+    }
+    answers::of_write(after.answer, beside)
 }
 
 #[no_mangle]
-pub extern "C" fn kuj_write_vcr(control: &mut [u64; 5], value: u32, beside: &mut u64) -> u32
-    ensures { λ r. ⌜ (answer r (now (beside .exit)), now (control .exit)) ≡ written (now (control .entry)) (vcrWritten (controlOf (now (control .entry))) value) ⌝ }
+pub extern "C" fn kuj_write_vmr_low(control: &mut Control, value: u32, beside: &mut u64) -> u32
+    ensures { λ r. ⌜ outcome (answer r (now (beside .exit))) (now (control .exit)) ≡ vmrLowWritten (now (control .entry)) value ⌝ }
 {
-    let after = lent::lend_vcr(record::of(control), value);
-    alter(control, after, beside)
+    let after = control::write_vmr_low(*control, value);
+    if control::is_done(after.answer) {
+        *control = after.control;
+    }
+    answers::of_write(after.answer, beside)
 }
 
 #[no_mangle]
-pub extern "C" fn kuj_write_vmr_low(control: &mut [u64; 5], value: u32, beside: &mut u64) -> u32
-    ensures { λ r. ⌜ (answer r (now (beside .exit)), now (control .exit)) ≡ written (now (control .entry)) (vmrLowWritten (controlOf (now (control .entry))) value) ⌝ }
+pub extern "C" fn kuj_write_vmr_high(control: &mut Control, value: u32, beside: &mut u64) -> u32
+    ensures { λ r. ⌜ outcome (answer r (now (beside .exit))) (now (control .exit)) ≡ vmrHighWritten (now (control .entry)) value ⌝ }
 {
-    let after = lent::lend_vmr_low(record::of(control), value);
-    alter(control, after, beside)
+    let after = control::write_vmr_high(*control, value);
+    if control::is_done(after.answer) {
+        *control = after.control;
+    }
+    answers::of_write(after.answer, beside)
 }
 
 #[no_mangle]
-pub extern "C" fn kuj_write_vmr_high(control: &mut [u64; 5], value: u32, beside: &mut u64) -> u32
-    ensures { λ r. ⌜ (answer r (now (beside .exit)), now (control .exit)) ≡ written (now (control .entry)) (vmrHighWritten (controlOf (now (control .entry))) value) ⌝ }
+pub extern "C" fn kuj_write_vpsr(control: &mut Control, value: u32, beside: &mut u64) -> u32
+    ensures { λ r. ⌜ outcome (answer r (now (beside .exit))) (now (control .exit)) ≡ vpsrWritten (now (control .entry)) value ⌝ }
 {
-    let after = lent::lend_vmr_high(record::of(control), value);
-    alter(control, after, beside)
-}
-
-#[no_mangle]
-pub extern "C" fn kuj_write_vpsr(control: &mut [u64; 5], value: u32, beside: &mut u64) -> u32
-    ensures { λ r. ⌜ (answer r (now (beside .exit)), now (control .exit)) ≡ written (now (control .entry)) (vpsrWritten (controlOf (now (control .entry))) value) ⌝ }
-{
-    let after = lent::lend_vpsr(record::of(control), value);
-    alter(control, after, beside)
+    let after = control::write_vpsr(*control, value);
+    if control::is_done(after.answer) {
+        *control = after.control;
+    }
+    answers::of_write(after.answer, beside)
 }
 
 // Executes one instruction.

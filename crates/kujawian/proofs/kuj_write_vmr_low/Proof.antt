@@ -1,23 +1,38 @@
--- `kuj_write_vmr_low` meets its contract. Assumes nothing.
-use Rattle.state.specs.declared.Control.{Control}
-use Rattle.control.specs.Moves.{vmrLowWritten}
-use Rattle.kujawian.proofs.Calls.{writes}
-use borrow.Author.Needs.{needs}
-use Rattle.kujawian.proofs.kuj_write_vmr_low.Statement.{statement}
-use Rattle.kujawian.proofs.kuj_write_vmr_low.Tie as tie
+-- `kuj_write_vmr_low` meets its contract: the walk of `Writes.antt`, at the width of its value, `control::write_vmr_low` and its definition.
+-- Assumes nothing.
+use package.mir.Syntax.{w32 as width}
+use base.Logic.{emp}
+use contract.Fact.{factI}
+use contract.Running.{givenOf, tables, tablesOf}
+use denote.Triple.Spec.{tripleOf}
+use denote.Triple.Table.{entered, cited}
+use Rattle.control.specs.Moves.{vmrLowWritten as written}
+use Rattle.control.proofs.Kept.{refused-keeps}
+use Rattle.kujawian.proofs.Writes.{ByValue, IsDone, OfWrite, meets}
+use Rattle.control.proofs.write_vmr_low.Symbol as write-def
+use Rattle.control.proofs.write_vmr_low.Met as write-thm
+use Rattle.control.proofs.is_done.Symbol as test-def
+use Rattle.control.proofs.is_done.Met as test-thm
+use Rattle.kujawian.proofs.answers.of_write.Symbol as answer-def
+use Rattle.kujawian.proofs.answers.of_write.Met as answer-thm
+use Rattle.kujawian.proofs.kuj_write_vmr_low.Key.{name as #write}
+use Rattle.kujawian.proofs.kuj_write_vmr_low as f
+use Rattle.kujawian.proofs.kuj_write_vmr_low.Statement as stated
+use Rattle.kujawian.proofs.kuj_write_vmr_low.Code as code
 
-of-requires : tie.Need-of-requires
-of-requires c κs = search needs
-
-lend-vmr-low-requires : tie.Need-lend-vmr-low-requires
-lend-vmr-low-requires c κs = search needs
-
-alter-requires : tie.Need-alter-requires
-alter-requires c κs = search needs
-
-returns : tie.Need-returns
-returns c = writes (λ (k : Control). vmrLowWritten k (c .before .before .before .before .before .before .args .value)) _ _ (c .before .before .before .before .of .ensures) _ _ (c .before .before .before .lend-vmr-low .ensures) (c .alter .ensures)
-
-pub kuj-write-vmr-low-spec : {M : Type 1} → statement M
-kuj-write-vmr-low-spec =
-    tie.close (tie.spec of-requires lend-vmr-low-requires alter-requires returns)
+pub kuj-write-vmr-low-spec : {M : Type 1} → stated.statement M
+unfolding code.routine tablesOf
+kuj-write-vmr-low-spec 𝓤 H 𝓜 𝓖 𝓡 =
+    entered 𝓤 H (tripleOf 𝓤 H (𝓖 .A) f.signature (f.spec 𝓤 H (𝓖 .A) (𝓜 .mem) (𝓡 .run)))
+    (tables 𝓤 H 𝓜 𝓡 code.env .C) (tables 𝓤 H 𝓜 𝓡 code.env .Λ) #write code.function (code.unfolded 𝓤 H 𝓜 𝓡)
+    (meets width written (λ c n w. refused-keeps _ _ c _ w)
+    𝓤 (λ κs a. f.clauses 𝓤 H (𝓖 .A) (𝓜 .mem) (𝓡 .run) κs a .ensures tt)
+    -- what the definition says of the number, of what stands beside it and of the record is what is promised
+    (λ κs x n y number beside c e. factI 𝓤 _ (emp 𝓤) e)
+    H (𝓖 .A) (givenOf 𝓤 H 𝓜 𝓖) (𝓜 .mem) (𝓡 .run) (tablesOf 𝓤 H 𝓜 (tables 𝓤 H 𝓜 𝓡 code.env)) write-def.name
+    (cited 𝓤 H (ByValue width written 𝓤 H (𝓖 .A)) 𝓜 𝓡 code.env write-def.name write-def.routine
+    code.calls-control·write-vmr-low (write-thm.met 𝓤 H 𝓜 𝓖 𝓡))
+    (cited 𝓤 H (IsDone 𝓤 H (𝓖 .A) (𝓜 .mem) (𝓡 .run)) 𝓜 𝓡 code.env test-def.name test-def.routine
+    code.calls-control·is-done (test-thm.met 𝓤 H 𝓜 𝓖 𝓡))
+    (cited 𝓤 H (OfWrite 𝓤 H (𝓖 .A) (𝓜 .mem) (𝓡 .run)) 𝓜 𝓡 code.env answer-def.name answer-def.routine
+    code.calls-kujawian·answers·of-write (answer-thm.met 𝓤 H 𝓜 𝓖 𝓡)))

@@ -1,0 +1,2 @@
+-- What a refused write leaves.
+pub mod Kept
