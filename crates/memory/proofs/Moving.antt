@@ -2,20 +2,23 @@
 use mathlib.Core.Bool.{Bool, true, false}
 use mathlib.Core.Path.{_≡_, refl, ap, _∙_}
 use mathlib.Core.List.{List}
-use Prim.Native.Nat.{ℕ, _+_, _-_, _≤_}
+use Prim.Native.Nat.{ℕ, _+_, _-_, _≤_, _<_}
 use native.Mathlib.Omega.{arith}
 use lib.ListN.{take, drop, set}
 use borrow.Rule.Slice.PartMut.{putMid}
 use Rattle.numbers.specs.Halves.{withLow}
 use Rattle.numbers.specs.Bits.{bit}
+use Rattle.numbers.specs.Choice.{pick}
 use Rattle.numbers.specs.Rising.{rising, ofOnes}
 use Rattle.numbers.specs.Bytes.{bytesOf, numberOf}
 use Rattle.state.specs.State.{placeOf}
 use Rattle.state.specs.Elements.{at}
+use Rattle.numbers.proofs.Rising.{alike}
+use Rattle.memory.specs.declared.Access.the-variants.{Done}
 use Rattle.memory.specs.Works.{sizeOf}
 use Rattle.memory.specs.Window.{numberAt, putAt}
 use Rattle.memory.specs.Address.{Within}
-use Rattle.memory.specs.Move.{received, loadStep, storeStep}
+use Rattle.memory.specs.Move.{received, moved, movesBy, loadStep, storeStep}
 use Rattle.memory.proofs.Windows.{put}
 
 -- the bytes of a quadword, and of a longword
@@ -31,7 +34,8 @@ part-of : (size offset : ℕ) → offset + size - offset ≡ size
 part-of size offset = omega arith
 
 module _ (quadword : Bool) (w : List ℕ) (offset old r : ℕ) where
-  pub quadword-received : quadword ≡ true → r ≡ numberOf (take (offset + 8 - offset) (drop offset w)) → r ≡ received quadword old (numberAt (sizeOf quadword) w offset)
+  pub quadword-received : quadword ≡ true → r ≡ numberOf (take (offset + 8 - offset) (drop offset w))
+      → r ≡ received quadword old (numberAt (sizeOf quadword) w offset)
   quadword-received e f = rw (e, ← part-of 8 offset) f
 
   pub longword-received : (v : ℕ) → quadword ≡ false → v ≡ numberOf (take (offset + 4 - offset) (drop offset w)) → r ≡ withLow old v
@@ -47,7 +51,8 @@ module _ (quadword : Bool) (w part : List ℕ) (origin address v offset : ℕ) (
   longword-put e f = rw (e, ← at) (put 4 w part offset v f)
 
 -- an element's bytes lie in the window
-module _ (quadword : Bool) (origin bytes address : ℕ) (lies : Within (sizeOf quadword) origin (origin + bytes) address) (offset : ℕ) (at : offset ≡ address - origin) where
+module _ (quadword : Bool) (origin bytes address : ℕ) (lies : Within (sizeOf quadword) origin (origin + bytes) address)
+    (offset : ℕ) (at : offset ≡ address - origin) where
   pub eight-within : quadword ≡ true → offset + 8 ≤ bytes
   eight-within e = eight-fit quadword offset bytes (omega arith) e
 
@@ -70,3 +75,22 @@ module _ (quadword : Bool) (origin vc which : ℕ) (address : ℕ → ℕ) (n : 
   pub stores-ones : rising (ofOnes (storeAt quadword origin vc address l) which) n w ≡ rising (storeStep quadword origin vc (bit which) address l) n w
   unfolding ofOnes storeAt storeStep
   stores-ones = refl
+
+-- of the elements only those that are chosen are asked where they begin in the window
+module _ (quadword : Bool) (origin origin′ vc : ℕ) (chosen : ℕ → Bool) (address address′ : ℕ → ℕ) (n : ℕ) (l w : List ℕ)
+    (same : (i : ℕ) → i < n → chosen i ≡ true → address i - origin ≡ address′ i - origin′) where
+  steps : (f : ℕ → ℕ → List ℕ → List ℕ) (x : List ℕ)
+      → rising (λ i x. pick (chosen i) (f i (address i - origin) x) x) n x ≡ rising (λ i x. pick (chosen i) (f i (address′ i - origin′) x) x) n x
+  steps f x = alike _ _ n x (λ i x h. at i x (chosen i) (same i h))
+    where
+      at : (i : ℕ) (x : List ℕ) (t : Bool) → (t ≡ true → address i - origin ≡ address′ i - origin′)
+          → pick t (f i (address i - origin) x) x ≡ pick t (f i (address′ i - origin′) x) x
+      at i x true e = ap (λ (k : ℕ). f i k x) (e refl)
+      at i x false e = refl
+
+  pub moves-agree : (store : Bool) → movesBy store quadword origin vc chosen address n l w ≡ movesBy store quadword origin′ vc chosen address′ n l w
+  unfolding storeStep loadStep
+  moves-agree true = ap (moved Done l) (steps (λ (i k : ℕ) (x : List ℕ). putAt (sizeOf quadword) x k (at l vc i)) w)
+  moves-agree false =
+      ap (λ (x : List ℕ). moved Done x w)
+      (steps (λ (i k : ℕ) (x : List ℕ). set x (placeOf vc i) (received quadword (at x vc i) (numberAt (sizeOf quadword) w k))) l)

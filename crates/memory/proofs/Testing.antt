@@ -2,6 +2,7 @@
 use mathlib.Core.Bool.{Bool, true, false, _&&_}
 use mathlib.Core.Path.{_≡_, refl, sym, ap, ap₂, _∙_}
 use mathlib.Core.Logic.{_⊎_, inl, inr, ⊎-elim}
+use mathlib.Core.List.{List}
 use Prim.Native.Nat.{ℕ, zero, suc, _+_, _-_, _%_, _^_, _≤_, _<_}
 use native.Mathlib.Omega.{arith}
 use lib.Dec.{ltb, leb, eqb}
@@ -10,15 +11,17 @@ use Rattle.numbers.specs.Bits.{bit}
 use Rattle.numbers.specs.Choice.{pick}
 use Rattle.numbers.proofs.BitLaws.{bit-above}
 use Rattle.numbers.proofs.SetBits.{Walk, stops-walk, ends-walk}
-use Rattle.numbers.proofs.Tests.{and-left, and-right, below-or-not}
+use Rattle.numbers.proofs.Sets.{bit-none}
+use Rattle.numbers.proofs.Tests.{and-left, and-right, below-or-not, true-not-false}
 use Rattle.memory.specs.declared.Test.{Test}
 use Rattle.memory.specs.declared.Test.the-variants as test
 use Rattle.memory.specs.declared.Access.{Access}
 use Rattle.memory.specs.declared.Access.the-variants as access
 use Rattle.numbers.specs.Rising.{rising, ofOnes}
 use Rattle.memory.specs.Works.{sizeOf}
-use Rattle.memory.specs.Address.{found, testOf, Within, verdict, saying, orElse, testStep, tested}
+use Rattle.memory.specs.Address.{Listed, found, testOf, Within, verdict, saying, orElse, testStep, tested, Searched}
 use Rattle.numbers.proofs.Rising.{starts, settles, alike}
+use Rattle.memory.proofs.Filling.{Filled}
 
 -- an element that is fine lies in the window
 within : (size origin end address : ℕ) → testOf size origin end address ≡ test.Fine → Within size origin end address
@@ -49,6 +52,16 @@ said-fine i test.Fine e = refl
 said-fine i test.Misaligned e = let z : _≡_ {A = ℕ} 0 1 = cc in absurd (omega arith)
 said-fine i test.Outside e = let z : _≡_ {A = ℕ} 0 1 = cc in absurd (omega arith)
 
+abbrev isFine : Test → Bool
+isFine test.Fine = true
+isFine test.Misaligned = false
+isFine test.Outside = false
+
+stays : (i : ℕ) (t : Test) (b : Access) → isFine t ≡ false → orElse (saying i t) b ≡ saying i t
+stays i test.Fine b e = absurd (true-not-false (sym e))
+stays i test.Misaligned b e = refl
+stays i test.Outside b e = refl
+
 module _ (size origin end : ℕ) (chosen : ℕ → Bool) (address : ℕ → ℕ) where
   -- no bad element below n
   below : (n i : ℕ) → i < n → tested size origin end chosen address n ≡ access.Done → verdict size origin end (chosen i) (address i) ≡ test.Fine
@@ -65,18 +78,22 @@ module _ (size origin end : ℕ) (chosen : ℕ → Bool) (address : ℕ → ℕ)
   all-within n i e h c = within size origin end (address i) (rw c at (below n i h e))
 
 -- no element below n is bad, and the set has no others
-module _ (size origin end which n : ℕ) (address : ℕ → ℕ) (small : which < 2 ^ n) (fine : (i : ℕ) → i < n → testOf size origin end (address i) ≡ test.Fine) where
-  pub none-bad : access.Done ≡ tested size origin end (bit which) address 64
+module _ (size origin end which n : ℕ) (address : ℕ → ℕ) (addresses : List ℕ) (small : which < 2 ^ n)
+    (listed : Listed address n addresses) (each : (i : ℕ) → i < n → testOf size origin end (address i) ≡ test.Fine) where
+  pub none-bad : Searched size origin end which address access.Done addresses
   unfolding testStep
-  none-bad = settles (testStep size origin end (bit which) address) access.Done access.Done 0 64 (omega arith) (λ i _ _. each i (below-or-not i n)) (starts _ _)
+  none-bad = record {
+    told = settles (testStep size origin end (bit which) address) access.Done access.Done 0 64 (omega arith) (λ i _ _. fine i (below-or-not i n)) (starts _ _);
+    kept = λ _ i e. ⊎-elim (listed .1 i) (λ (h : n ≤ i). absurd (true-not-false (sym (bit-above which n i small h) ∙ e))) (below-or-not i n);
+  }
     where
       either : (b : Bool) → pick b test.Fine test.Fine ≡ test.Fine
       either true = refl
       either false = refl
 
-      each : (i : ℕ) → (i < n) ⊎ (n ≤ i) → saying i (verdict size origin end (bit which i) (address i)) ≡ access.Done
-      each i (inl h) = ap (saying i) (ap (λ (t : Test). pick (bit which i) t test.Fine) (fine i h) ∙ either (bit which i))
-      each i (inr h) = ap (λ (b : Bool). saying i (verdict size origin end b (address i))) (bit-above which n i small h)
+      fine : (i : ℕ) → (i < n) ⊎ (n ≤ i) → saying i (verdict size origin end (bit which i) (address i)) ≡ access.Done
+      fine i (inl h) = ap (saying i) (ap (λ (t : Test). pick (bit which i) t test.Fine) (each i h) ∙ either (bit which i))
+      fine i (inr h) = ap (λ (b : Bool). saying i (verdict size origin end b (address i))) (bit-above which n i small h)
 
 -- the test of an element that is operated on, after those of the elements below it
 unfoldable pub testAt : ℕ → ℕ → ℕ → (ℕ → ℕ) → ℕ → Access → Access
@@ -88,24 +105,33 @@ module _ (size origin end : ℕ) (address : ℕ → ℕ) where
   unfolding ofOnes testAt testStep
   tests-ones which n = alike _ _ n access.Done (λ i a _. either a i (bit which i))
     where
-      either : (a : Access) (i : ℕ) (b : Bool) → pick b (orElse a (saying i (testOf size origin end (address i)))) a ≡ orElse a (saying i (verdict size origin end b (address i)))
+      either : (a : Access) (i : ℕ) (b : Bool)
+          → pick b (orElse a (saying i (testOf size origin end (address i)))) a ≡ orElse a (saying i (verdict size origin end b (address i)))
       either a i true = refl
       either a i false = sym (or-done a)
 
   -- what the test of element i says, where none was bad before
-  pub turn : (i : ℕ) (t u : Test) → t ≡ testOf size origin end (address i) → t ≡ u → saying i u ≡ testAt size origin end address i access.Done
+  pub turn : (i a : ℕ) (t u : Test) → a ≡ address i → t ≡ testOf size origin end a → t ≡ u
+      → saying i u ≡ testAt size origin end address i access.Done
   unfolding testAt
-  turn i t u said e = ap (saying i) (sym e ∙ said)
+  turn i a t u at said e = ap (saying i) (sym e ∙ said ∙ ap (testOf size origin end) at)
 
-  module _ {which left : ℕ} where
-    pub no-more : Walk (testAt size origin end address) which 64 access.Done left access.Done → left ≡ 0 → access.Done ≡ tested size origin end (bit which) address 64
-    no-more w e = ends-walk _ _ _ _ _ _ w e ∙ tests-ones which 64
+  module _ {which left : ℕ} (addresses : List ℕ) where
+    pub no-more : Walk (testAt size origin end address) which 64 access.Done left access.Done → Filled address which left addresses → left ≡ 0
+        → Searched size origin end which address access.Done addresses
+    no-more w filled e = record {
+      told = ends-walk _ _ _ _ _ _ w e ∙ tests-ones which 64;
+      kept = λ _ i h. filled i (h, ap (λ (x : ℕ). bit x i) e ∙ bit-none i);
+    }
 
     -- a bad element that was found stays
-    pub bad : (i : ℕ) (t : Test) → (t ≡ test.Misaligned) ⊎ (t ≡ test.Outside) → Walk (testAt size origin end address) which 64 access.Done left (saying i t) → saying i t ≡ tested size origin end (bit which) address 64
+    pub bad : (i : ℕ) (t : Test) → isFine t ≡ false → Walk (testAt size origin end address) which 64 access.Done left (saying i t)
+        → Searched size origin end which address (saying i t) addresses
     unfolding testAt
-    bad i t (inl e) w = stops-walk _ _ _ _ _ _ w (λ j. rw e) ∙ tests-ones which 64
-    bad i t (inr e) w = stops-walk _ _ _ _ _ _ w (λ j. rw e) ∙ tests-ones which 64
+    bad i t e w = record {
+      told = stops-walk _ _ _ _ _ _ w (λ j. stays i t _ e) ∙ tests-ones which 64;
+      kept = λ g. absurd (true-not-false (sym e ∙ ap isFine (said-fine i t g)));
+    }
 
 -- the test of one element, by what its parts said
 module _ (size origin end address bytes : ℕ) (straight : Bool) (said : straight ≡ eqb (address % size) 0) (sized : bytes ≡ size) where

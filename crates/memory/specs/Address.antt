@@ -4,12 +4,15 @@ use mathlib.Core.Bool.{Bool, true, not, _&&_, _||_}
 use mathlib.Core.List.{List}
 use Prim.Native.Nat.{ℕ, _+_, _*_, _%_, _^_, _≤_, _<_}
 use lib.Dec.{ltb, leb, eqb}
+use lib.ListN.{length, getD}
+use Rattle.numbers.specs.Bits.{bit}
 use Rattle.numbers.specs.Choice.{pick}
 use Rattle.numbers.specs.Halves.{low}
 use Rattle.state.specs.Elements.{at, matches}
 use Rattle.state.specs.Answer.{Answer, done, windowRefused, misaligned, outsideWindow}
 use Rattle.state.specs.declared.Control.{Control}
 use Rattle.opcodes.specs.declared.Instruction.{Instruction}
+use Rattle.memory.specs.declared.Addressing.{Addressing}
 use Rattle.memory.specs.declared.Test.{Test}
 use Rattle.memory.specs.declared.Test.the-variants as test
 use Rattle.memory.specs.declared.Access.{Access}
@@ -30,6 +33,13 @@ addressBy offsets base stride l vb = pick offsets (offsetBy base l vb) (strided 
 
 abbrev pub addressOf : Instruction → ℕ → ℕ → List ℕ → ℕ → ℕ
 addressOf ins base stride l = addressBy (ins .scalar) base stride l (ins .vb .0)
+
+abbrev pub addressIn : Addressing → List ℕ → ℕ → ℕ
+addressIn a l = addressBy (a .offsets) (a .base) (a .stride) l (a .vb .0)
+
+-- 64 addresses, of which those below n are the elements'
+abbrev pub Listed : (ℕ → ℕ) → ℕ → List ℕ → Type 0
+Listed address n addresses = (length addresses ≡ 64) × ((i : ℕ) → i < n → getD addresses i 0 ≡ address i)
 
 -- MOE = 0 or VMR<i> = MTF
 abbrev pub chosenBy : Bool → Bool → ℕ → ℕ → Bool
@@ -80,6 +90,11 @@ testStep size origin end chosen address i a =
 -- the lowest bad element of those below n
 abbrev pub tested : ℕ → ℕ → ℕ → (ℕ → Bool) → (ℕ → ℕ) → ℕ → Access
 tested size origin end chosen address n = rising (testStep size origin end chosen address) n access.Done
+
+-- what the tests of a set leave: the answer r and, if no element of the set is bad, a list of addresses that has those of the set
+pub record Searched (size origin end which : ℕ) (address : ℕ → ℕ) (r : Access) (addresses : List ℕ) : Type 0 where
+  pub told : r ≡ tested size origin end (bit which) address 64
+  pub kept : r ≡ access.Done → (i : ℕ) → bit which i ≡ true → getD addresses i 0 ≡ address i
 
 -- the number of each answer, and what stands beside it
 abbrev pub accessAnswer : Access → Answer

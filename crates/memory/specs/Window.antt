@@ -9,7 +9,7 @@ use Rattle.numbers.specs.Over.{over}
 
 -- at most 65,536 bytes, an origin that is a multiple of 8, and origin + length at most 2^32; else number 4
 unfoldable pub allowed : ℕ → ℕ → Bool
-allowed length origin = leb length 65536 && eqb (origin % 8) 0 && leb (origin + length) (2 ^ 32)
+allowed bytes origin = leb bytes 65536 && eqb (origin % 8) 0 && leb (origin + bytes) (2 ^ 32)
 
 -- the number that stands in size bytes of the window
 abbrev pub numberAt : ℕ → List ℕ → ℕ → ℕ

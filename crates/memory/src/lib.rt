@@ -1,11 +1,13 @@
 // Memory instructions over the lent elements and the lent window.
 use opcodes::Instruction;
 use state::Control;
+use state::Register;
 ghost use mathlib.Core.Path.{_≡_};
 ghost use Prim.Native.Nat.{_+_, _^_, _≤_, _<_};
-ghost use lib.ListN.{length, getD};
+ghost use lib.ListN.{length};
 ghost use Rattle.numbers.specs.Bits.{bit};
 ghost use Rattle.state.specs.State.{state};
+ghost use Rattle.memory.specs.Address.{addressIn};
 ghost use Rattle.memory.specs.Move.{moved, movedBy, movedOf};
 
 mod addresses;
@@ -31,29 +33,47 @@ pub enum Access {
     OutsideWindow(u64),
 }
 
+// How the addresses of the elements are said: by offsets from Vb or by a stride, from a base.
+struct Addressing {
+    pub offsets: bool,
+    pub base: u32,
+    pub stride: u32,
+    pub vb: Register,
+}
+
 // Tests the elements of a set of numbers below n, and moves them if all are fine.
 fn all_or_none(
     elements: &mut [u64; 1024],
     window: &mut [u8],
-    addresses: &[u32; 64],
+    addressing: Addressing,
     store: bool,
     which: u64,
     quadword: bool,
     origin: u64,
-    vc: usize,
+    vc: Register,
     n: usize,
 ) -> Access
-    requires { ⌜ (vc < 16) × (n ≤ 64) × (which < 2 ^ n) × (origin + length (now window) ≤ 2 ^ 32) ⌝ }
-    ensures { λ r. ⌜ moved r (now (elements .exit)) (now (window .exit)) ≡ movedBy store quadword origin vc (bit which) (λ k. getD (now (addresses .entry)) k 0) 64 (now (elements .entry)) (now (window .entry)) ⌝ }
+    requires { ⌜ (addressing .vb .0 < 16) × (vc .0 < 16) × (n ≤ 64) × (which < 2 ^ n) × (origin + length (now window) ≤ 2 ^ 32) ⌝ }
+    ensures { λ r. ⌜ moved r (now (elements .exit)) (now (window .exit)) ≡ movedBy store quadword origin (vc .0) (bit which) (addressIn addressing (now (elements .entry))) 64 (now (elements .entry)) (now (window .entry)) ⌝ }
 {
-    let access = tests::tested(addresses, which, quadword, origin, window.len() as u64, n);
+    let mut addresses = [0u32; 64];
+    let access = tests::tested(
+        &mut addresses,
+        elements,
+        addressing,
+        which,
+        quadword,
+        origin,
+        window.len() as u64,
+        n,
+    );
     let Access::Done = access else {
         return access;
     };
     moves::all(
         elements,
         window,
-        addresses,
+        &addresses,
         store,
         which,
         quadword,
@@ -89,25 +109,21 @@ pub fn transfer(
     );
     // From here on the window stands at 0: its origin is taken from the base once, and not from each address.
     let start = std::num::wrapping_sub_u32(base, (origin % 4294967296) as u32);
-    let mut addresses = [0u32; 64];
-    addresses::of_elements(
-        &mut addresses,
-        elements,
-        instruction.scalar,
-        start,
+    let addressing = Addressing {
+        offsets: instruction.scalar,
+        base: start,
         stride,
-        instruction.vb.0 as usize,
-        n,
-    );
+        vb: instruction.vb.register(),
+    };
     all_or_none(
         elements,
         window,
-        &addresses,
+        addressing,
         works::is_store(work),
         which,
         works::is_quadword(work),
         0,
-        instruction.vc.0 as usize,
+        instruction.vc.register(),
         n,
     )
 }

@@ -1,4 +1,6 @@
 // Loads: what the operated elements receive of the window, once all are tested.
+use state::Element;
+use state::Register;
 ghost use mathlib.Core.Path.{_≡_};
 ghost use Prim.Native.Nat.{_+_, _-_, _≤_, _<_};
 ghost use lib.ListN.{length, getD, set};
@@ -31,14 +33,14 @@ fn load_one(
     address: u32,
     quadword: bool,
     origin: u64,
-    vc: usize,
-    i: usize,
+    vc: Register,
+    i: Element,
 )
-    requires { ⌜ (vc < 16) × (i < 64) × Within (sizeOf quadword) origin (origin + length (now window)) address ⌝ }
-    ensures { λ _. ⌜ now (elements .exit) ≡ set (now (elements .entry)) (placeOf vc i) (received quadword (at (now (elements .entry)) vc i) (numberAt (sizeOf quadword) (now (window .entry)) (address - origin))) ⌝ }
+    requires { ⌜ (vc .0 < 16) × (i .0 < 64) × Within (sizeOf quadword) origin (origin + length (now window)) address ⌝ }
+    ensures { λ _. ⌜ now (elements .exit) ≡ set (now (elements .entry)) (placeOf (vc .0) (i .0)) (received quadword (at (now (elements .entry)) (vc .0) (i .0)) (numberAt (sizeOf quadword) (now (window .entry)) (address - origin))) ⌝ }
 {
     let offset = crate::window::offset_of(address, origin);
-    let to = vc * 64 + i;
+    let to = state::place(vc, i);
     elements[to] = fetched(window, offset, quadword, elements[to]);
 }
 
@@ -50,10 +52,10 @@ pub(crate) fn load(
     which: u64,
     quadword: bool,
     origin: u64,
-    vc: usize,
+    vc: Register,
 )
-    requires { ⌜ (vc < 16) × AllWithin (sizeOf quadword) origin (origin + length (now window)) (bit which) (λ k. getD (now addresses) k 0) 64 ⌝ }
-    ensures { λ _. ⌜ now (elements .exit) ≡ rising (loadStep quadword origin vc (bit which) (λ k. getD (now (addresses .entry)) k 0) (now (window .entry))) 64 (now (elements .entry)) ⌝ }
+    requires { ⌜ (vc .0 < 16) × AllWithin (sizeOf quadword) origin (origin + length (now window)) (bit which) (λ k. getD (now addresses) k 0) 64 ⌝ }
+    ensures { λ _. ⌜ now (elements .exit) ≡ rising (loadStep quadword origin (vc .0) (bit which) (λ k. getD (now (addresses .entry)) k 0) (now (window .entry))) 64 (now (elements .entry)) ⌝ }
 {
     let mut left = which;
     while left != 0 {
@@ -65,7 +67,7 @@ pub(crate) fn load(
             quadword,
             origin,
             vc,
-            i,
+            Element(i),
         );
         left = numbers::bits::without_lowest(left);
     }

@@ -1,4 +1,5 @@
 // What a memory instruction moves, once all operated elements are tested.
+use state::Register;
 ghost use mathlib.Core.Path.{_≡_};
 ghost use Prim.Native.Nat.{_+_, _<_};
 ghost use lib.ListN.{length, getD};
@@ -17,10 +18,10 @@ pub(crate) fn all(
     which: u64,
     quadword: bool,
     origin: u64,
-    vc: usize,
+    vc: Register,
 )
-    requires { ⌜ (vc < 16) × AllWithin (sizeOf quadword) origin (origin + length (now window)) (bit which) (λ k. getD (now addresses) k 0) 64 ⌝ }
-    ensures { λ _. ⌜ moved Done (now (elements .exit)) (now (window .exit)) ≡ movesBy «to_window» quadword origin vc (bit which) (λ k. getD (now (addresses .entry)) k 0) 64 (now (elements .entry)) (now (window .entry)) ⌝ }
+    requires { ⌜ (vc .0 < 16) × AllWithin (sizeOf quadword) origin (origin + length (now window)) (bit which) (λ k. getD (now addresses) k 0) 64 ⌝ }
+    ensures { λ _. ⌜ moved Done (now (elements .exit)) (now (window .exit)) ≡ movesBy «to_window» quadword origin (vc .0) (bit which) (λ k. getD (now (addresses .entry)) k 0) 64 (now (elements .entry)) (now (window .entry)) ⌝ }
 {
     if to_window {
         crate::stores::store(window, elements, addresses, which, quadword, origin, vc);

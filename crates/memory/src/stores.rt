@@ -1,4 +1,6 @@
 // Stores: what the operated elements leave in the window, once all are tested.
+use state::Element;
+use state::Register;
 ghost use mathlib.Core.Path.{_≡_};
 ghost use Prim.Native.Nat.{_+_, _-_, _<_};
 ghost use lib.ListN.{length, getD};
@@ -32,15 +34,15 @@ pub(crate) fn store(
     which: u64,
     quadword: bool,
     origin: u64,
-    vc: usize,
+    vc: Register,
 )
-    requires { ⌜ (vc < 16) × AllWithin (sizeOf quadword) origin (origin + length (now window)) (bit which) (λ k. getD (now addresses) k 0) 64 ⌝ }
-    ensures { λ _. ⌜ now (window .exit) ≡ rising (storeStep quadword origin vc (bit which) (λ k. getD (now (addresses .entry)) k 0) (now (elements .entry))) 64 (now (window .entry)) ⌝ }
+    requires { ⌜ (vc .0 < 16) × AllWithin (sizeOf quadword) origin (origin + length (now window)) (bit which) (λ k. getD (now addresses) k 0) 64 ⌝ }
+    ensures { λ _. ⌜ now (window .exit) ≡ rising (storeStep quadword origin (vc .0) (bit which) (λ k. getD (now (addresses .entry)) k 0) (now (elements .entry))) 64 (now (window .entry)) ⌝ }
 {
     let mut left = which;
     while left != 0 {
         let i = numbers::bits::lowest(left);
-        let v = elements[vc * 64 + i];
+        let v = elements[state::place(vc, Element(i))];
         store_one(&mut *window, addresses[i], quadword, origin, v);
         left = numbers::bits::without_lowest(left);
     }

@@ -1,14 +1,15 @@
-// The tests of the operated elements.
+// The tests of the operated elements. An address is worked out when it is tested, and kept for the move.
 use crate::Access;
+use crate::Addressing;
 use crate::Test;
+use state::Element;
 ghost use mathlib.Core.Path.{_≡_};
 ghost use mathlib.Core.Bool.{true};
 ghost use Prim.Native.Nat.{ℕ, _+_, _-_, _^_, _≤_, _<_, _%_, max};
-ghost use lib.ListN.{getD};
+ghost use lib.ListN.{length, getD};
 ghost use lib.Dec.{eqb};
-ghost use Rattle.numbers.specs.Bits.{bit};
 ghost use Rattle.memory.specs.Works.{sizeOf};
-ghost use Rattle.memory.specs.Address.{testOf, tested as testedOf};
+ghost use Rattle.memory.specs.Address.{addressIn, Listed, testOf, Searched};
 ghost use Rattle.memory.specs.declared.Test.the-variants.{Fine};
 
 // How many bytes an element moves.
@@ -45,14 +46,25 @@ fn one(address: u32, quadword: bool, origin: u64, end: u64) -> Test
     Test::Misaligned
 }
 
-// The lowest bad element of a set.
-fn search(addresses: &[u32; 64], which: u64, quadword: bool, origin: u64, end: u64) -> Access
-    ensures { λ r. ⌜ r ≡ testedOf (sizeOf quadword) origin end (bit which) (λ i. getD (now (addresses .entry)) i 0) 64 ⌝ }
+// The lowest bad element of a set. The address of each one that is looked at is worked out and kept, and of no other.
+fn search(
+    addresses: &mut [u32; 64],
+    elements: &[u64; 1024],
+    addressing: Addressing,
+    which: u64,
+    quadword: bool,
+    origin: u64,
+    end: u64,
+) -> Access
+    requires { ⌜ (addressing .vb .0 < 16) × (length (now addresses) ≡ 64) ⌝ }
+    ensures { λ r. ⌜ Searched (sizeOf quadword) origin end which (addressIn addressing (now (elements .entry))) r (now (addresses .exit)) ⌝ }
 {
     let mut left = which;
     while left != 0 {
         let i = numbers::bits::lowest(left);
-        let test = one(addresses[i], quadword, origin, end);
+        let address = crate::addresses::of_element(elements, addressing, Element(i));
+        addresses[i] = address;
+        let test = one(address, quadword, origin, end);
         match test {
             Test::Fine => {}
             Test::Misaligned => {
@@ -106,39 +118,61 @@ fn all_fine(addresses: &[u32; 64], quadword: bool, origin: u64, bytes: u64, n: u
     all
 }
 
-// All elements below n are operated on, and fine. Where some are not operated on, none is looked at here.
+// All elements below n are operated on, and fine; their addresses are kept. Where some are not operated on, none is looked at here.
 fn all_at_once(
-    addresses: &[u32; 64],
+    addresses: &mut [u32; 64],
+    elements: &[u64; 1024],
+    addressing: Addressing,
     which: u64,
     quadword: bool,
     origin: u64,
     bytes: u64,
     n: usize,
 ) -> bool
-    requires { ⌜ (n ≤ 64) × (origin + bytes ≤ 2 ^ 32) ⌝ }
-    ensures { λ r. ⌜ (r ≡ true → (i : ℕ) → i < n → testOf (sizeOf quadword) origin (origin + bytes) (getD (now (addresses .entry)) i 0) ≡ Fine) ⌝ }
+    requires { ⌜ (addressing .vb .0 < 16) × (n ≤ 64) × (origin + bytes ≤ 2 ^ 32) × (length (now addresses) ≡ 64) ⌝ }
+    ensures { λ r. ⌜ (length (now (addresses .exit)) ≡ 64) × (r ≡ true → Listed (addressIn addressing (now (elements .entry))) n (now (addresses .exit)) × ((i : ℕ) → i < n → testOf (sizeOf quadword) origin (origin + bytes) (addressIn addressing (now (elements .entry)) i) ≡ Fine)) ⌝ }
 {
     if which != numbers::bits::low_bits(18446744073709551615, n as u64) {
         return false;
     }
+    crate::addresses::of_all(&mut *addresses, elements, addressing, n);
     all_fine(addresses, quadword, origin, bytes, n)
 }
 
-// The lowest bad element of a set of numbers below n. As a rule all are operated on and fine, which is told fast; else each of the set is looked at, and no
-// other.
+// The lowest bad element of a set of numbers below n. As a rule all are operated on and fine, which is told fast; else each of the set is
+// looked at, and no other.
 pub(crate) fn tested(
-    addresses: &[u32; 64],
+    addresses: &mut [u32; 64],
+    elements: &[u64; 1024],
+    addressing: Addressing,
     which: u64,
     quadword: bool,
     origin: u64,
     bytes: u64,
     n: usize,
 ) -> Access
-    requires { ⌜ (n ≤ 64) × (which < 2 ^ n) × (origin + bytes ≤ 2 ^ 32) ⌝ }
-    ensures { λ r. ⌜ r ≡ testedOf (sizeOf quadword) origin (origin + bytes) (bit which) (λ i. getD (now (addresses .entry)) i 0) 64 ⌝ }
+    requires { ⌜ (addressing .vb .0 < 16) × (n ≤ 64) × (which < 2 ^ n) × (origin + bytes ≤ 2 ^ 32) × (length (now addresses) ≡ 64) ⌝ }
+    ensures { λ r. ⌜ Searched (sizeOf quadword) origin (origin + bytes) which (addressIn addressing (now (elements .entry))) r (now (addresses .exit)) ⌝ }
 {
-    if all_at_once(addresses, which, quadword, origin, bytes, n) {
+    if all_at_once(
+        &mut *addresses,
+        elements,
+        addressing,
+        which,
+        quadword,
+        origin,
+        bytes,
+        n,
+    ) {
         return Access::Done;
     }
-    search(addresses, which, quadword, origin, origin + bytes)
+    search(
+        addresses,
+        elements,
+        addressing,
+        which,
+        quadword,
+        origin,
+        origin + bytes,
+    )
 }

@@ -1,7 +1,4 @@
 -- `all_or_none` meets its contract: a bad element leaves all as it was, else every operated element is moved. Assumes nothing.
-use Prim.Native.Nat.{ℕ}
-use lib.ListN.{getD}
-use Rattle.numbers.specs.Bits.{bit}
 use Rattle.memory.proofs.Accessing.{none, every, lie-within}
 use borrow.Author.Needs.{needs}
 use Rattle.memory.proofs.all_or_none.Statement.{statement}
@@ -15,16 +12,16 @@ enum-told c = search needs
 
 returns : tie.Need-returns
 returns c =
-    let args = c .before .before .before .args in
-    none (args .store) (args .quadword) (args .origin) (args .vc) (bit (args .which)) (λ (k : ℕ). getD (args .addresses .now) k 0) 64
-    (args .elements .now) (args .window .now) _ (c .before .tested .ensures) (c .match .keys2)
+    let args = c .before .before .before .before .before .args in
+    none (args .store) (args .quadword) (args .origin) (args .vc .0) (args .which) _ (args .elements .now) (args .window .now) _ _
+    (c .before .tested .ensures) (c .match .keys2)
 
 all-requires : tie.Need-all-requires
 all-requires c κs =
-    let args = c .before .before .before .before .before .before .args in (
+    let args = c .before .before .before .before .before .before .before .before .before .args in (
       search needs,
-      lie-within (args .store) (args .quadword) (args .origin) (args .vc) (bit (args .which)) (λ (k : ℕ). getD (args .addresses .now) k 0) 64
-          (args .elements .now) (args .window .now) _ (c .before .before .before .before .tested .ensures) (c .before .before .enum-told .given .1),
+      lie-within (args .store) (args .quadword) (args .origin) (args .vc .0) (args .which) _ (args .elements .now) (args .window .now) _ _
+          (c .before .before .before .before .before .tested .ensures) (c .before .before .before .enum-told .given .1),
     )
 
 same-length : tie.Need-same-length
@@ -32,9 +29,10 @@ same-length c = search needs
 
 returns-2 : tie.Need-returns-2
 returns-2 c =
-    let args = c .before .before .before .before .before .before .before .before .before .args in
-    every (args .store) (args .quadword) (args .origin) (args .vc) (bit (args .which)) (λ (k : ℕ). getD (args .addresses .now) k 0) 64
-    (args .elements .now) (args .window .now) _ (c .before .before .before .before .before .before .before .tested .ensures) _ _ (c .before .before .before .before .before .enum-told .given .1) (c .before .before .all .ensures)
+    let args = c .before .before .before .before .before .before .before .before .before .before .before .before .args in
+    every (args .store) (args .quadword) (args .origin) (args .vc .0) (args .which) _ (args .elements .now) (args .window .now) _ _
+    (c .before .before .before .before .before .before .before .before .tested .ensures)
+    (c .before .before .before .before .before .before .enum-told .given .1) _ (c .before .before .all .ensures)
 
 pub all-or-none-spec : {M : Type 1} → statement M
 all-or-none-spec =

@@ -1,22 +1,21 @@
 -- `strided` meets its contract: the places below i are filled, and the next address is at hand. Assumes nothing.
 use mathlib.Core.Path.{_≡_}
-use Prim.Native.Nat.{ℕ, _≤_, _<_, _-_}
+use Prim.Native.Nat.{_≤_, _-_}
 use native.Mathlib.Omega.{arith}
-use lib.ListN.{length, getD, length-set}
-use Rattle.memory.specs.Address.{strided as stridedOf}
-use Rattle.memory.proofs.Filling.{fills, strides, first}
+use Rattle.memory.specs.Address.{strided as stridedOf, Listed}
+use Rattle.memory.proofs.Filling.{lists-next, lists-all, strides, first}
 use borrow.Author.Needs.{needs}
 use Rattle.memory.proofs.addresses.strided.Statement.{statement}
 use Rattle.memory.proofs.addresses.strided.Tie as tie
 
 abbrev Inv-loop : tie.InvT-loop
-Inv-loop addresses₀ base stride n address₀ i₀ addresses address i = (i ≤ n) × ((address ≡ stridedOf base stride i) × ((length addresses ≡ 64) × ((k : ℕ) → k < i → getD addresses k 0 ≡ stridedOf base stride k)))
+Inv-loop addresses₀ base stride n address₀ i₀ addresses address i = (i ≤ n) × (address ≡ stridedOf base stride i) × Listed (stridedOf base stride) i addresses
 
 abbrev μ-loop : tie.MeasureT-loop
 μ-loop addresses₀ base stride n address₀ i₀ addresses address i = n - i
 
 loop-holds : tie.Need-loop-holds Inv-loop μ-loop
-loop-holds c = (search needs, (search (first, needs), (search needs, λ k h. absurd (omega arith))))
+loop-holds c = (search needs, search (first, needs), (search needs, λ k h. absurd (omega arith)))
 
 mul-addresses : tie.Need-mul-addresses Inv-loop μ-loop
 mul-addresses c = omega arith
@@ -34,20 +33,12 @@ loop-less : tie.Need-loop-less Inv-loop μ-loop
 loop-less c = omega arith
 
 loop-again : tie.Need-loop-again Inv-loop μ-loop
-loop-again c = let loop = c .before .before .loop in
-    let args = c .before .before .before .args in (
-      omega arith,
-      (
-        search (strides, needs),
-        (
-          simp length-set (search needs),
-          fills (stridedOf (args .base) (args .stride)) (loop .addresses) (loop .i) (loop .address) (omega arith) (loop .inv .1 .1 .1) (loop .inv .1 .0),
-        ),
-      ),
-    )
+loop-again c =
+    let loop = c .before .before .loop in
+    (omega arith, search (strides, needs), lists-next _ (loop .addresses) (loop .i) (loop .address) (omega arith) (loop .inv .2) (loop .inv .1))
 
 returns : tie.Need-returns Inv-loop μ-loop
-returns c = λ k h. c .before .loop .inv .1 .1 .1 k (omega arith)
+returns c = lists-all _ (c .before .loop .addresses) (c .before .loop .i) (c .before .before .args .n) (omega arith) (c .before .loop .inv .2)
 
 pub strided-spec : {M : Type 1} → statement M
 strided-spec =

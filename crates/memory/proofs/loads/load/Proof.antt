@@ -3,14 +3,16 @@ use mathlib.Core.Path.{_∙_}
 use Prim.Native.Nat.{ℕ}
 use native.Mathlib.Omega.{arith}
 use lib.ListN.{getD}
-use Rattle.numbers.proofs.SetBits.{Walk, starts-walk, index-below, index-one, less-left, turns-walk, ends-walk}
+use Rattle.numbers.proofs.SetBits.{Walk, starts-walk, ends-walk}
+use Rattle.memory.proofs.Walking.{below, one, fewer, goes-on}
 use Rattle.memory.proofs.Moving.{loadAt, loads-ones}
 use borrow.Author.Needs.{needs}
 use Rattle.memory.proofs.loads.load.Statement.{statement}
 use Rattle.memory.proofs.loads.load.Tie as tie
 
 abbrev Inv-loop : tie.InvT-loop
-Inv-loop elements₀ window addresses which quadword origin vc left₀ elements left = Walk (loadAt quadword origin vc (λ (k : ℕ). getD addresses k 0) window) which 64 elements₀ left elements
+Inv-loop elements₀ window addresses which quadword origin vc left₀ elements left =
+    Walk (loadAt quadword origin (vc .0) (λ (k : ℕ). getD addresses k 0) window) which 64 elements₀ left elements
 
 abbrev μ-loop : tie.MeasureT-loop
 μ-loop elements₀ window addresses which quadword origin vc left₀ elements left = left
@@ -22,26 +24,34 @@ lowest-requires : tie.Need-lowest-requires Inv-loop μ-loop
 lowest-requires c κs = search needs
 
 mul-load-one : tie.Need-mul-load-one Inv-loop μ-loop
-mul-load-one c = record { fits = omega (arith, index-below _ _ _ _ _ _ (c .before .before .before .loop .inv) (omega arith) (c .before .before .before .loop .inv .small) _ (c .before .lowest .ensures)) }
+mul-load-one c =
+    let at = c .before in let loop = at .before .before .loop in
+    record { fits = omega (arith, below (loop .inv) (omega arith) (at .lowest .ensures)) }
 
 element-copy-out-load-one : tie.Need-element-copy-out-load-one Inv-loop μ-loop
-element-copy-out-load-one c = index-below _ _ _ _ _ _ (c .before .before .before .loop .inv) (omega arith) (c .before .before .before .loop .inv .small) _ (c .before .lowest .ensures)
+element-copy-out-load-one c =
+    let at = c .before in let loop = at .before .before .loop in
+    below (loop .inv) (omega arith) (at .lowest .ensures)
 
 load-one-requires : tie.Need-load-one-requires Inv-loop μ-loop
 load-one-requires c κs =
-    let below = index-below _ _ _ _ _ _ (c .before .before .before .before .loop .inv) (omega arith) (c .before .before .before .before .loop .inv .small) _ (c .before .before .lowest .ensures) in
-    let one = index-one _ _ _ _ _ _ (c .before .before .before .before .loop .inv) (omega arith) (c .before .before .before .before .loop .inv .small) _ (c .before .before .lowest .ensures) in
-    (search needs, below, c .before .before .before .before .before .before .pre .1 _ below one)
+    let at = c .before .before in let loop = at .before .before .loop in
+    let h = below (loop .inv) (omega arith) (at .lowest .ensures) in
+    (search needs, h, at .before .before .before .before .pre .1 _ h (one (loop .inv) (omega arith) (at .lowest .ensures)))
 
 without-lowest-requires : tie.Need-without-lowest-requires Inv-loop μ-loop
 without-lowest-requires c κs = search needs
 
 loop-less : tie.Need-loop-less Inv-loop μ-loop
-loop-less c = less-left _ _ _ _ _ _ (c .before .before .before .before .before .before .loop .inv) (omega arith) (c .before .before .before .before .before .before .loop .inv .small) _ (c .before .before .before .before .lowest .ensures) _ (c .without-lowest .ensures)
+loop-less c =
+    let at = c .before .before .before .before in let loop = at .before .before .loop in
+    fewer (loop .inv) (omega arith) (at .lowest .ensures) (c .without-lowest .ensures)
 
 loop-again : tie.Need-loop-again Inv-loop μ-loop
 unfolding loadAt
-loop-again c = turns-walk _ _ _ _ _ _ (c .before .before .before .before .before .before .loop .inv) (omega arith) (c .before .before .before .before .before .before .loop .inv .small) _ (c .before .before .before .before .lowest .ensures) _ (c .without-lowest .ensures) _ (c .before .load-one .ensures)
+loop-again c =
+    let at = c .before .before .before .before in let loop = at .before .before .loop in
+    goes-on (loop .inv) (omega arith) (at .lowest .ensures) (c .without-lowest .ensures) _ (c .before .load-one .ensures)
 
 returns : tie.Need-returns Inv-loop μ-loop
 returns c = ends-walk _ _ _ _ _ _ (c .before .loop .inv) (c .loop-test .left) ∙ loads-ones _ _ _ _ _ _ _ _

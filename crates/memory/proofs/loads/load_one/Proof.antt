@@ -6,11 +6,8 @@ use Rattle.memory.proofs.loads.load_one.Tie as tie
 offset-of-requires : tie.Need-offset-of-requires
 offset-of-requires c κs = search needs
 
-mul-to : tie.Need-mul-to
-mul-to c = search needs
-
-add-to : tie.Need-add-to
-add-to c = search needs
+place-requires : tie.Need-place-requires
+place-requires c κs = search needs
 
 mul-fetched : tie.Need-mul-fetched
 mul-fetched c = search needs
@@ -28,15 +25,14 @@ element-write-elements : tie.Need-element-write-elements
 element-write-elements c = search needs
 
 returns : tie.Need-returns
-returns c = rw (c .fetched .ensures, c .before .before .offset-of .ensures)
+returns c = rw (c .fetched .ensures, c .before .before .place .ensures, c .before .before .before .offset-of .ensures)
 
 pub load-one-spec : {M : Type 1} → statement M
 load-one-spec =
     tie.close
     (tie.spec
     offset-of-requires
-    mul-to
-    add-to
+    place-requires
     mul-fetched
     element-copy-out-fetched
     fetched-requires

@@ -1,35 +1,48 @@
--- `search` meets its contract: none that was looked at is bad. Assumes nothing.
-use mathlib.Core.Path.{refl}
-use mathlib.Core.Logic.{inl, inr}
-use Prim.Native.Nat.{ℕ}
+-- `search` meets its contract: none that was looked at is bad, and its address is kept. Assumes nothing.
+use mathlib.Core.Path.{_≡_, refl}
 use native.Mathlib.Omega.{arith}
-use lib.ListN.{getD}
+use lib.ListN.{length, length-set}
+use Rattle.numbers.proofs.SetBits.{Walk, starts-walk}
 use Rattle.memory.specs.declared.Test.the-variants as test
 use Rattle.memory.specs.declared.Access.the-variants as access
 use Rattle.memory.specs.Works.{sizeOf}
-use Rattle.numbers.proofs.SetBits.{Walk, starts-walk, index-below, less-left, turns-walk}
+use Rattle.memory.specs.Address.{addressIn}
+use Rattle.memory.proofs.Filling.{Filled, none-filled, fills-one}
+use Rattle.memory.proofs.Walking.{below, fewer, goes-on}
 use Rattle.memory.proofs.Testing.{testAt, turn, no-more, bad}
 use borrow.Author.Needs.{needs}
 use Rattle.memory.proofs.tests.search.Statement.{statement}
 use Rattle.memory.proofs.tests.search.Tie as tie
 
 abbrev Inv-loop : tie.InvT-loop
-Inv-loop addresses which quadword origin end left₀ left = Walk (testAt (sizeOf quadword) origin end (λ (k : ℕ). getD addresses k 0)) which 64 access.Done left access.Done
+Inv-loop addresses₀ elements addressing which quadword origin end left₀ addresses left =
+    Walk (testAt (sizeOf quadword) origin end (addressIn addressing elements)) which 64 access.Done left access.Done
+    × (length addresses ≡ 64)
+    × Filled (addressIn addressing elements) which left addresses
 
 abbrev μ-loop : tie.MeasureT-loop
-μ-loop addresses which quadword origin end left₀ left = left
+μ-loop addresses₀ elements addressing which quadword origin end left₀ addresses left = left
 
 loop-holds : tie.Need-loop-holds Inv-loop μ-loop
-loop-holds c = search (starts-walk, needs)
+loop-holds c = (search (starts-walk, needs), search needs, none-filled _ _ (c .args .addresses .now))
 
 lowest-requires : tie.Need-lowest-requires Inv-loop μ-loop
 lowest-requires c κs = search needs
 
-mul-one : tie.Need-mul-one Inv-loop μ-loop
-mul-one c = record { fits = omega (arith, index-below _ _ _ _ _ _ (c .before .before .loop .inv) (omega arith) (c .before .before .loop .inv .small) _ (c .lowest .ensures)) }
+of-element-requires : tie.Need-of-element-requires Inv-loop μ-loop
+of-element-requires c κs =
+    let loop = c .before .before .loop in
+    (search needs, omega (arith, below (loop .inv .0) (omega arith) (c .lowest .ensures)))
 
-element-copy-out-one : tie.Need-element-copy-out-one Inv-loop μ-loop
-element-copy-out-one c = index-below _ _ _ _ _ _ (c .before .before .loop .inv) (omega arith) (c .before .before .loop .inv .small) _ (c .lowest .ensures)
+mul-addresses : tie.Need-mul-addresses Inv-loop μ-loop
+mul-addresses c =
+    let at = c .before in let loop = at .before .before .loop in
+    record { fits = omega (arith, below (loop .inv .0) (omega arith) (at .lowest .ensures)) }
+
+element-write-addresses : tie.Need-element-write-addresses Inv-loop μ-loop
+element-write-addresses c =
+    let at = c .before in let loop = at .before .before .loop in
+    omega (arith, below (loop .inv .0) (omega arith) (at .lowest .ensures))
 
 one-requires : tie.Need-one-requires Inv-loop μ-loop
 one-requires c κs = search needs
@@ -41,25 +54,43 @@ enum-told-2 : tie.Need-enum-told-2 Inv-loop μ-loop
 enum-told-2 c = search needs
 
 returns : tie.Need-returns Inv-loop μ-loop
-returns c = bad _ _ _ _ _ test.Misaligned (inl refl) (turns-walk _ _ _ _ _ _ (c .before .before .before .before .before .before .loop .inv) (omega arith) (c .before .before .before .before .before .before .loop .inv .small) _ (c .before .before .before .before .lowest .ensures) _ refl _ (turn _ _ _ _ _ _ test.Misaligned (c .before .before .one .ensures) (c .enum-told2 .given .1)))
+returns c =
+    let at = c .before .before .before in let low = at .before in let loop = low .before .before .loop in
+    bad _ _ _ _ _ _ test.Misaligned refl
+    (goes-on (loop .inv .0) (omega arith) (low .lowest .ensures) refl _
+    (turn _ _ _ _ _ _ _ test.Misaligned (at .of-element .ensures) (c .before .before .one .ensures) (c .enum-told2 .given .1)))
 
 enum-told-3 : tie.Need-enum-told-3 Inv-loop μ-loop
 enum-told-3 c = search needs
 
 returns-2 : tie.Need-returns-2 Inv-loop μ-loop
-returns-2 c = bad _ _ _ _ _ test.Outside (inr refl) (turns-walk _ _ _ _ _ _ (c .before .before .before .before .before .before .loop .inv) (omega arith) (c .before .before .before .before .before .before .loop .inv .small) _ (c .before .before .before .before .lowest .ensures) _ refl _ (turn _ _ _ _ _ _ test.Outside (c .before .before .one .ensures) (c .enum-told3 .given .1)))
+returns-2 c =
+    let at = c .before .before .before in let low = at .before in let loop = low .before .before .loop in
+    bad _ _ _ _ _ _ test.Outside refl
+    (goes-on (loop .inv .0) (omega arith) (low .lowest .ensures) refl _
+    (turn _ _ _ _ _ _ _ test.Outside (at .of-element .ensures) (c .before .before .one .ensures) (c .enum-told3 .given .1)))
 
 without-lowest-requires : tie.Need-without-lowest-requires Inv-loop μ-loop
 without-lowest-requires c κs = search needs
 
 loop-less : tie.Need-loop-less Inv-loop μ-loop
-loop-less c = less-left _ _ _ _ _ _ (c .before .before .before .before .before .before .before .loop .inv) (omega arith) (c .before .before .before .before .before .before .before .loop .inv .small) _ (c .before .before .before .before .before .lowest .ensures) _ (c .without-lowest .ensures)
+loop-less c =
+    let at = c .before .before .before .before .before in let loop = at .before .before .loop in
+    fewer (loop .inv .0) (omega arith) (at .lowest .ensures) (c .without-lowest .ensures)
 
 loop-again : tie.Need-loop-again Inv-loop μ-loop
-loop-again c = turns-walk _ _ _ _ _ _ (c .before .before .before .before .before .before .before .loop .inv) (omega arith) (c .before .before .before .before .before .before .before .loop .inv .small) _ (c .before .before .before .before .before .lowest .ensures) _ (c .without-lowest .ensures) _ (turn _ _ _ _ _ _ test.Fine (c .before .before .before .one .ensures) (c .before .enum-told .given .1))
+loop-again c =
+    let at = c .before .before .before .before in let low = at .before in let loop = low .before .before .loop in
+    let h = below (loop .inv .0) (omega arith) (low .lowest .ensures) in (
+      goes-on (loop .inv .0) (omega arith) (low .lowest .ensures) (c .without-lowest .ensures) _
+          (turn _ _ _ _ _ _ _ test.Fine (at .of-element .ensures) (c .before .before .before .one .ensures) (c .before .enum-told .given .1)),
+      simp length-set (search needs),
+      fills-one _ _ _ _ _ (low .lowest .ensures) (c .without-lowest .ensures) (loop .addresses) (at .of-element .result) (omega arith) (loop .inv .2)
+          (at .of-element .ensures),
+    )
 
 returns-3 : tie.Need-returns-3 Inv-loop μ-loop
-returns-3 c = no-more _ _ _ _ (c .before .loop .inv) (c .loop-test .left)
+returns-3 c = no-more _ _ _ _ _ (c .before .loop .inv .0) (c .before .loop .inv .2) (c .loop-test .left)
 
 pub search-spec : {M : Type 1} → statement M
 search-spec =
@@ -69,8 +100,9 @@ search-spec =
     μ-loop
     loop-holds
     lowest-requires
-    mul-one
-    element-copy-out-one
+    of-element-requires
+    mul-addresses
+    element-write-addresses
     one-requires
     enum-told
     enum-told-2

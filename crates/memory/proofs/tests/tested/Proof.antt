@@ -8,7 +8,9 @@ all-at-once-requires : tie.Need-all-at-once-requires
 all-at-once-requires c κs = search needs
 
 returns : tie.Need-returns
-returns c = none-bad _ _ _ _ _ _ (c .before .before .pre .1) (c .before .all-at-once .ensures (c .if1 .taken))
+returns c =
+    let all = c .before .all-at-once .ensures .1 (c .if1 .taken) in
+    none-bad _ _ _ _ _ _ _ (c .before .before .before .pre .2) (all .0) (all .1)
 
 add-search : tie.Need-add-search
 add-search c = search needs
@@ -20,4 +22,5 @@ returns-2 : tie.Need-returns-2
 returns-2 c = search needs
 
 pub tested-spec : {M : Type 1} → statement M
-tested-spec = tie.close (tie.spec all-at-once-requires returns add-search search-requires returns-2)
+tested-spec =
+    tie.close (tie.spec all-at-once-requires returns add-search search-requires returns-2)
