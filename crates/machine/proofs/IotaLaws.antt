@@ -4,7 +4,7 @@ use mathlib.Core.Path.{_≡_, refl, sym, ap, ap₂, _∙_}
 use mathlib.Core.Bool.{Bool, true, false, _&&_, Bool·beq}
 use mathlib.Core.List.{List}
 use Prim.Native.Nat.{ℕ, zero, suc, _+_, _-_, _*_, _%_, _^_, _≤_, _<_}
-use native.Mathlib.Nat.{mul-le-mul-right, le-of-lt, le-refl}
+use native.Mathlib.Nat.{le-refl}
 use native.Mathlib.Omega.{arith}
 use lib.Count.{ones}
 use borrow.Author.Tests.{lt-ltb, le-ltb}
@@ -64,9 +64,6 @@ matching-le vmr mtf (suc n) = one-more (matches vmr mtf n) (matching-le vmr mtf 
 -- what `count` makes of them
 pub counts : (vmr : ℕ) (mtf : Bool) (n m b : ℕ) → vmr < 2 ^ 64 → n ≤ 64 → m ≡ pick mtf vmr (complement 64 vmr) → b ≡ lowBits m n → ones b ≡ matching vmr mtf n
 counts vmr mtf n m b small h e f = ap ones (f ∙ ap (λ (x : ℕ). lowBits x n) e) ∙ counted 64 vmr mtf n small h
-
-pub multiple-lt : (i stride : ℕ) → i < 64 → stride < 2 ^ 32 → i * stride < 2 ^ 64
-multiple-lt i stride h small = let le : i * stride ≤ 64 * stride = mul-le-mul-right stride (le-of-lt h) in omega arith
 
 -- ---- the walk over the ones of the mask or its complement, cut at VLR
 

@@ -15,21 +15,13 @@ ghost use Rattle.machine.specs.Run.{run as runOf};
 ghost use Rattle.machine.specs.Iota.{put};
 ghost use Rattle.machine.specs.Loops.{matched, wrote, iotaTurn, effected, doneFor};
 
-// i times stride mod 2^32.
-fn multiple(i: Element, stride: u32) -> u32
-    requires { ⌜ i .0 < 64 ⌝ }
-    ensures { λ r. ⌜ r ≡ i .0 * stride % 2 ^ 32 ⌝ }
-{
-    (i.0 as u64 * stride as u64 % 4294967296) as u32
-}
-
 // The next element of vc gets i's multiple.
 fn turn(elements: &mut [u64; 1024], stride: u32, vc: Register, i: Element, next: Element)
     requires { ⌜ (vc .0 < 16) × (i .0 < 64) × (next .0 < 64) ⌝ }
     ensures { λ _. ⌜ now (elements .exit) ≡ put (vc .0) (next .0) (i .0 * stride % 2 ^ 32) (now (elements .entry)) ⌝ }
 {
     let to = state::place(vc, next);
-    elements[to] = numbers::halves::with_low(elements[to], multiple(i, stride));
+    elements[to] = numbers::halves::with_low(elements[to], numbers::halves::multiple(i.0, stride));
 }
 
 // The walk over the ones of a set, rising; gives how many there were.

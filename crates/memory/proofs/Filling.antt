@@ -3,7 +3,7 @@ use mathlib.Core.Path.{_≡_, sym, ap, _∙_}
 use mathlib.Core.Bool.{true, false}
 use mathlib.Core.List.{List}
 use Prim.Native.Nat.{ℕ, _+_, _*_, _%_, _^_, _≤_, _<_}
-use native.Mathlib.Nat.{add-mul, one-mul, mul-le-mul-right, le-of-lt}
+use native.Mathlib.Nat.{add-mul, one-mul}
 use native.Mathlib.Omega.{arith}
 use lib.ListN.{length, getD, set, length-set}
 use lib.Seq.{getD-set-same, getD-set-other}
@@ -57,8 +57,5 @@ pub first : (base stride : ℕ) → base < 2 ^ 32 → base ≡ strided base stri
 first base stride h = let m : 0 * stride ≡ 0 = omega arith in omega arith
 
 -- the address of one element by itself
-pub multiple-lt : (i stride : ℕ) → i < 64 → stride < 2 ^ 32 → i * stride < 2 ^ 64
-multiple-lt i stride h small = let le : i * stride ≤ 64 * stride = mul-le-mul-right stride (le-of-lt h) in omega arith
-
 pub strides-to : (base stride i m address : ℕ) → m ≡ i * stride % 2 ^ 32 → address ≡ (base + m) % 2 ^ 32 → address ≡ strided base stride i
 strides-to base stride i m address e f = omega arith

@@ -4,17 +4,9 @@ use crate::Addressing;
 use state::Element;
 use state::Register;
 ghost use mathlib.Core.Path.{_≡_};
-ghost use Prim.Native.Nat.{_*_, _%_, _^_, _≤_, _<_};
+ghost use Prim.Native.Nat.{_≤_, _<_};
 ghost use lib.ListN.{length};
 ghost use Rattle.memory.specs.Address.{strided as stridedOf, offsetBy, addressIn, Listed};
-
-// i times stride mod 2^32.
-fn multiple(i: Element, stride: u32) -> u32
-    requires { ⌜ i .0 < 64 ⌝ }
-    ensures { λ r. ⌜ r ≡ i .0 * stride % 2 ^ 32 ⌝ }
-{
-    (i.0 as u64 * stride as u64 % 4294967296) as u32
-}
 
 // The address of an element by the offset that a register holds.
 fn by_offset(elements: &[u64; 1024], base: u32, vb: Register, i: Element) -> u32
@@ -33,7 +25,10 @@ pub(crate) fn of_element(elements: &[u64; 1024], addressing: Addressing, i: Elem
     if addressing.offsets {
         return by_offset(elements, addressing.base, addressing.vb, i);
     }
-    std::num::wrapping_add_u32(addressing.base, multiple(i, addressing.stride))
+    std::num::wrapping_add_u32(
+        addressing.base,
+        numbers::halves::multiple(i.0, addressing.stride),
+    )
 }
 
 // The addresses of all elements below n, by a stride. The loop has no branch, so that the machine does several at once.

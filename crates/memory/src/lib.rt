@@ -113,7 +113,7 @@ pub fn transfer(
         offsets: instruction.scalar,
         base: start,
         stride,
-        vb: instruction.vb.register(),
+        vb: Register(instruction.vb.0 as usize),
     };
     all_or_none(
         elements,
@@ -123,7 +123,7 @@ pub fn transfer(
         which,
         works::is_quadword(work),
         0,
-        instruction.vc.register(),
+        Register(instruction.vc.0 as usize),
         n,
     )
 }

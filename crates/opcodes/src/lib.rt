@@ -1,6 +1,4 @@
 // Opcodes and control words: which instructions are accepted, and what they say.
-use state::Register;
-ghost use mathlib.Core.Path.{_≡_};
 ghost use Rattle.opcodes.specs.Decoding.{Decodes};
 
 pub mod control_word;
@@ -40,15 +38,6 @@ pub enum Opcode {
 
 // A field of the control word, four bits: the number of a register or, where the work takes none there, of a conversion or a relation.
 pub struct Field(pub u8);
-
-impl Field {
-    // The register that it names.
-    pub fn register(self) -> Register
-        ensures { λ r. ⌜ r .0 ≡ self .0 ⌝ }
-    {
-        Register(self.0 as usize)
-    }
-}
 
 // A decoded instruction: the one value that the layers above work from.
 pub struct Instruction {

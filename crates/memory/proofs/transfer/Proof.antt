@@ -25,8 +25,8 @@ cast-wrapping-sub-u32 c = search needs
 wrapping-sub-u32-requires : tie.Need-wrapping-sub-u32-requires
 wrapping-sub-u32-requires c κs = search needs
 
-register-requires : tie.Need-register-requires
-register-requires c κs = search needs
+cast-t14 : tie.Need-cast-t14
+cast-t14 c = search needs
 
 is-store-requires : tie.Need-is-store-requires
 is-store-requires c κs = search needs
@@ -34,8 +34,8 @@ is-store-requires c κs = search needs
 is-quadword-requires : tie.Need-is-quadword-requires
 is-quadword-requires c κs = search needs
 
-register-requires-2 : tie.Need-register-requires-2
-register-requires-2 c κs = search needs
+cast-t14-2 : tie.Need-cast-t14-2
+cast-t14-2 c = search needs
 
 all-or-none-requires : tie.Need-all-or-none-requires
 all-or-none-requires c κs = (
@@ -58,10 +58,10 @@ returns-2 c =
     let start = first .before in let chosen = start .before in let e = chosen .before in let v = e .before in let s = v .before .before in let args = s .args in
     done (state (args .elements .now) (args .control)) (args .instruction) (args .base) (args .stride) (args .window .now) (args .origin) _
     (v .allowed .ensures) (e .if1 .left)
-    (record { offsets = args .instruction .scalar; base = start .wrapping-sub-u32 .result; stride = args .stride; vb = first .register .result })
-    refl (start .wrapping-sub-u32 .ensures) refl (first .register .ensures) (s .pre .2) _ (chosen .chosen-below .ensures)
+    (record { offsets = args .instruction .scalar; base = start .wrapping-sub-u32 .result; stride = args .stride; vb = record { 0 = args .instruction .vb .0 } })
+    refl (start .wrapping-sub-u32 .ensures) refl refl (s .pre .2) _ (chosen .chosen-below .ensures)
     _ _ (second .before .before .is-store .ensures) (second .before .is-quadword .ensures)
-    _ (second .register2 .ensures) _ (c .before .before .all-or-none .ensures)
+    _ refl _ (c .before .before .all-or-none .ensures)
 
 pub transfer-spec : {M : Type 1} → statement M
 transfer-spec =
@@ -72,10 +72,10 @@ transfer-spec =
     chosen-below-requires
     cast-wrapping-sub-u32
     wrapping-sub-u32-requires
-    register-requires
+    cast-t14
     is-store-requires
     is-quadword-requires
-    register-requires-2
+    cast-t14-2
     all-or-none-requires
     same-length
     returns-2)
