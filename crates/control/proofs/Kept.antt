@@ -1,7 +1,6 @@
 -- Document 01, "A refusal changes no state": a write that was not done leaves the record that was handed over. Assumes nothing.
 use mathlib.Core.Bool.{Bool, true, false, not}
 use mathlib.Core.Path.{_≡_, ap, sym}
-use Prim.Native.Nat.{ℕ}
 use native.Mathlib.Omega.{arith}
 use lib.Dec.{T}
 use Rattle.numbers.specs.Choice.{pick}

@@ -134,22 +134,22 @@ fn write_enabled(accepted: bool, control: Control, next: Control) -> Written
     write_when(state::enabled(control), accepted, control, next)
 }
 
-// A length or a count comes in as wide as the record keeps it, so that it is tested before anything
-// is cut off.
-pub fn write_vlr(control: Control, length: u64) -> Written
-    ensures { λ r. ⌜ outcomeOf r ≡ vlrWritten control length ⌝ }
+// The values of VLR and VCR come in as wide as the record keeps them, so that they are tested before
+// anything is cut off.
+pub fn write_vlr(control: Control, vlr: u64) -> Written
+    ensures { λ r. ⌜ outcomeOf r ≡ vlrWritten control vlr ⌝ }
 {
     let mut next = control;
-    next.vlr = length;
-    write_enabled(state::length_in_range(length), control, next)
+    next.vlr = vlr;
+    write_enabled(state::length_in_range(vlr), control, next)
 }
 
-pub fn write_vcr(control: Control, count: u64) -> Written
-    ensures { λ r. ⌜ outcomeOf r ≡ vcrWritten control count ⌝ }
+pub fn write_vcr(control: Control, vcr: u64) -> Written
+    ensures { λ r. ⌜ outcomeOf r ≡ vcrWritten control vcr ⌝ }
 {
     let mut next = control;
-    next.vcr = count;
-    write_enabled(state::length_in_range(count), control, next)
+    next.vcr = vcr;
+    write_enabled(state::length_in_range(vcr), control, next)
 }
 
 pub fn write_vmr_low(control: Control, value: u32) -> Written

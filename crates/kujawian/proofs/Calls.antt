@@ -1,4 +1,4 @@
--- The shape that the calls share: take the five numbers apart, call, store the record, write beside, return the number. Assumes nothing.
+-- The shape that the calls but the control writes share: take the five numbers apart, call, store the record, write beside, return the number. Assumes nothing.
 use mathlib.Core.Path.{_≡_, ap, _∙_}
 use mathlib.Core.List.{List}
 use Prim.Native.Nat.{ℕ}

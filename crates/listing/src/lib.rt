@@ -16,6 +16,9 @@ ghost use Rattle.listing.specs.Wrote.{Wrote};
 // The bytes that hold every listing.
 const LISTING_ROOM: usize = 25663;
 
+// The bytes that hold every answer's line.
+const ANSWER_ROOM: usize = 42;
+
 // What a call that prints into lent bytes gives back.
 pub enum Listed {
     // The text's length.
@@ -69,7 +72,7 @@ pub fn list_state(elements: &[u64; 1024], control: Control, text: &mut [u8]) -> 
 pub fn list_answer(number: u64, beside: u64, text: &mut [u8]) -> Listed
     ensures { λ r. ⌜ (listedAnswer r, now (text .exit)) ≡ answerListed (answerOf number beside) (now (text .entry)) ⌝ }
 {
-    if text.len() < 42 {
+    if text.len() < ANSWER_ROOM {
         return Listed::NoRoom;
     }
     let at = write::number(&mut *text, 0, 10, write::width(number), number);

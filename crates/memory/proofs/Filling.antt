@@ -10,7 +10,7 @@ use lib.Seq.{getD-set-same, getD-set-other}
 use Rattle.numbers.specs.Bits.{bit, withBit, withoutBit, lowestOne}
 use Rattle.numbers.proofs.BitLaws.{bit-kept, decEq}
 use Rattle.numbers.proofs.Tests.{true-not-false}
-use Rattle.memory.specs.Address.{strided, Listed}
+use Rattle.memory.specs.Address.{strided, AddressesBelow}
 
 -- one more place of a list is filled: P holds of those that were, and Q of no other but i
 module _ (P Q : ℕ → Type 0) (f : ℕ → ℕ) (l : List ℕ) (i v : ℕ) (h : i < length l) (before : (k : ℕ) → P k → getD l k 0 ≡ f k) (e : v ≡ f i)
@@ -23,11 +23,11 @@ module _ (P Q : ℕ → Type 0) (f : ℕ → ℕ) (l : List ℕ) (i v : ℕ) (h 
       at (no g) = getD-set-other l i k v 0 g ∙ before k (others k q g)
 
 -- from the front
-pub lists-next : (f : ℕ → ℕ) (l : List ℕ) (i v : ℕ) → i < 64 → Listed f i l → v ≡ f i → Listed f (i + 1) (set l i v)
+pub lists-next : (f : ℕ → ℕ) (l : List ℕ) (i v : ℕ) → i < 64 → AddressesBelow f i l → v ≡ f i → AddressesBelow f (i + 1) (set l i v)
 lists-next f l i v h (long, before) e =
     (simp length-set long, fills (λ (k : ℕ). k < i) (λ (k : ℕ). k < i + 1) f l i v (omega arith) before e (λ k q g. omega arith))
 
-pub lists-all : (f : ℕ → ℕ) (l : List ℕ) (i n : ℕ) → n ≤ i → Listed f i l → Listed f n l
+pub lists-all : (f : ℕ → ℕ) (l : List ℕ) (i n : ℕ) → n ≤ i → AddressesBelow f i l → AddressesBelow f n l
 lists-all f l i n h (long, before) = (long, λ k g. before k (omega arith))
 
 -- as a set is walked: the places of those that are no longer left are filled

@@ -19,7 +19,7 @@ use Rattle.memory.specs.declared.Access.{Access}
 use Rattle.memory.specs.declared.Access.the-variants as access
 use Rattle.numbers.specs.Rising.{rising, ofOnes}
 use Rattle.memory.specs.Works.{sizeOf}
-use Rattle.memory.specs.Address.{Listed, found, testOf, Within, verdict, saying, orElse, testStep, tested, Searched}
+use Rattle.memory.specs.Address.{AddressesBelow, found, testOf, Within, verdict, saying, orElse, testStep, tested, Searched}
 use Rattle.numbers.proofs.Rising.{starts, settles, alike}
 use Rattle.memory.proofs.Filling.{Filled}
 
@@ -79,7 +79,7 @@ module _ (size origin end : ℕ) (chosen : ℕ → Bool) (address : ℕ → ℕ)
 
 -- no element below n is bad, and the set has no others
 module _ (size origin end which n : ℕ) (address : ℕ → ℕ) (addresses : List ℕ) (small : which < 2 ^ n)
-    (listed : Listed address n addresses) (each : (i : ℕ) → i < n → testOf size origin end (address i) ≡ test.Fine) where
+    (listed : AddressesBelow address n addresses) (each : (i : ℕ) → i < n → testOf size origin end (address i) ≡ test.Fine) where
   pub none-bad : Searched size origin end which address access.Done addresses
   unfolding testStep
   none-bad = record {

@@ -34,12 +34,13 @@ addressBy offsets base stride l vb = pick offsets (offsetBy base l vb) (strided 
 abbrev pub addressOf : Instruction → ℕ → ℕ → List ℕ → ℕ → ℕ
 addressOf ins base stride l = addressBy (ins .scalar) base stride l (ins .vb .0)
 
+-- the same as an Addressing says it
 abbrev pub addressIn : Addressing → List ℕ → ℕ → ℕ
 addressIn a l = addressBy (a .offsets) (a .base) (a .stride) l (a .vb .0)
 
 -- 64 addresses, of which those below n are the elements'
-abbrev pub Listed : (ℕ → ℕ) → ℕ → List ℕ → Type 0
-Listed address n addresses = (length addresses ≡ 64) × ((i : ℕ) → i < n → getD addresses i 0 ≡ address i)
+abbrev pub AddressesBelow : (ℕ → ℕ) → ℕ → List ℕ → Type 0
+AddressesBelow address n addresses = (length addresses ≡ 64) × ((i : ℕ) → i < n → getD addresses i 0 ≡ address i)
 
 -- MOE = 0 or VMR<i> = MTF
 abbrev pub chosenBy : Bool → Bool → ℕ → ℕ → Bool

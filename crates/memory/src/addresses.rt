@@ -1,12 +1,12 @@
 // The addresses of the operated elements, worked out before anything is moved: so a gather has read all that it needs of Vb by then. Where all
-// elements are operated on they are worked out at once, else one by one; of an element that is not operated on Vb is not read.
+// elements are operated on they are worked out at once, else (or if one of them is bad) one by one; of an element that is not operated on Vb is not read.
 use crate::Addressing;
 use state::Element;
 use state::Register;
 ghost use mathlib.Core.Path.{_≡_};
 ghost use Prim.Native.Nat.{_≤_, _<_};
 ghost use lib.ListN.{length};
-ghost use Rattle.memory.specs.Address.{strided as stridedOf, offsetBy, addressIn, Listed};
+ghost use Rattle.memory.specs.Address.{strided as stridedOf, offsetBy, addressIn, AddressesBelow};
 
 // The address of an element by the offset that a register holds.
 fn by_offset(elements: &[u64; 1024], base: u32, vb: Register, i: Element) -> u32
@@ -34,7 +34,7 @@ pub(crate) fn of_element(elements: &[u64; 1024], addressing: Addressing, i: Elem
 // The addresses of all elements below n, by a stride. The loop has no branch, so that the machine does several at once.
 fn strided(addresses: &mut [u32; 64], base: u32, stride: u32, n: usize)
     requires { ⌜ (n ≤ 64) × (length (now addresses) ≡ 64) ⌝ }
-    ensures { λ _. ⌜ Listed (stridedOf base stride) n (now (addresses .exit)) ⌝ }
+    ensures { λ _. ⌜ AddressesBelow (stridedOf base stride) n (now (addresses .exit)) ⌝ }
 {
     let mut address = base;
     let mut i: usize = 0;
@@ -48,7 +48,7 @@ fn strided(addresses: &mut [u32; 64], base: u32, stride: u32, n: usize)
 // The same by the offsets that a register holds.
 fn offset(addresses: &mut [u32; 64], elements: &[u64; 1024], base: u32, vb: Register, n: usize)
     requires { ⌜ (vb .0 < 16) × (n ≤ 64) × (length (now addresses) ≡ 64) ⌝ }
-    ensures { λ _. ⌜ Listed (offsetBy base (now (elements .entry)) (vb .0)) n (now (addresses .exit)) ⌝ }
+    ensures { λ _. ⌜ AddressesBelow (offsetBy base (now (elements .entry)) (vb .0)) n (now (addresses .exit)) ⌝ }
 {
     let mut i: usize = 0;
     while i < n {
@@ -65,7 +65,7 @@ pub(crate) fn of_all(
     n: usize,
 )
     requires { ⌜ (addressing .vb .0 < 16) × (n ≤ 64) × (length (now addresses) ≡ 64) ⌝ }
-    ensures { λ _. ⌜ Listed (addressIn addressing (now (elements .entry))) n (now (addresses .exit)) ⌝ }
+    ensures { λ _. ⌜ AddressesBelow (addressIn addressing (now (elements .entry))) n (now (addresses .exit)) ⌝ }
 {
     if addressing.offsets {
         offset(addresses, elements, addressing.base, addressing.vb, n);

@@ -9,7 +9,7 @@ ghost use Prim.Native.Nat.{ℕ, _+_, _-_, _^_, _≤_, _<_, _%_, max};
 ghost use lib.ListN.{length, getD};
 ghost use lib.Dec.{eqb};
 ghost use Rattle.memory.specs.Works.{sizeOf};
-ghost use Rattle.memory.specs.Address.{addressIn, Listed, testOf, Searched};
+ghost use Rattle.memory.specs.Address.{addressIn, AddressesBelow, testOf, Searched};
 ghost use Rattle.memory.specs.declared.Test.the-variants.{Fine};
 
 // How many bytes an element moves.
@@ -63,8 +63,8 @@ fn search(
     while left != 0 {
         let i = numbers::bits::lowest(left);
         let address = crate::addresses::of_element(elements, addressing, Element(i));
-        addresses[i] = address;
         let test = one(address, quadword, origin, end);
+        addresses[i] = address;
         match test {
             Test::Fine => {}
             Test::Misaligned => {
@@ -130,7 +130,7 @@ fn all_at_once(
     n: usize,
 ) -> bool
     requires { ⌜ (addressing .vb .0 < 16) × (n ≤ 64) × (origin + bytes ≤ 2 ^ 32) × (length (now addresses) ≡ 64) ⌝ }
-    ensures { λ r. ⌜ (length (now (addresses .exit)) ≡ 64) × (r ≡ true → Listed (addressIn addressing (now (elements .entry))) n (now (addresses .exit)) × ((i : ℕ) → i < n → testOf (sizeOf quadword) origin (origin + bytes) (addressIn addressing (now (elements .entry)) i) ≡ Fine)) ⌝ }
+    ensures { λ r. ⌜ (length (now (addresses .exit)) ≡ 64) × (r ≡ true → AddressesBelow (addressIn addressing (now (elements .entry))) n (now (addresses .exit)) × ((i : ℕ) → i < n → testOf (sizeOf quadword) origin (origin + bytes) (addressIn addressing (now (elements .entry)) i) ≡ Fine)) ⌝ }
 {
     if which != numbers::bits::low_bits(18446744073709551615, n as u64) {
         return false;

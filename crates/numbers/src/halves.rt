@@ -1,4 +1,4 @@
-// The two halves of 64 bits.
+// The two halves of 64 bits, and a multiple that is cut to the low one.
 ghost use mathlib.Core.Path.{_≡_};
 ghost use Prim.Native.Nat.{_*_, _%_, _^_, _<_};
 ghost use Rattle.numbers.specs.Halves.{low as lowOf, high as highOf, withLow, withHigh};

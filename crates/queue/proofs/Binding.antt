@@ -18,7 +18,7 @@ use Rattle.machine.specs.Instruction.{stepCount}
 use Rattle.queue.specs.Order.{has}
 use Rattle.queue.specs.Touch.{elementPlace, maskPlace, countPlace, isConvert, below, elementReads, writtenPlace, iotaReads, iotaWrites, reads, writes, meet, conflict}
 use Rattle.queue.specs.Binds.{feeds, sameTarget, binds, bound}
-use Rattle.queue.proofs.Places.{true-T, mem-append-r, elements-same, element-no-mask, mask-no-element, masks-same, has-append, has-one, has-when, has-below, has-not-below, meets, meet-comm, meet-one, meet-append, meet-when, conflict-comm}
+use Rattle.queue.proofs.Places.{true-T, mem-append-r, elements-same, element-no-mask, mask-no-element, masks-same, has-append, has-one, has-place-if, has-below, has-not-below, meets, meet-comm, meet-one, meet-append, meet-place-if, conflict-comm}
 
 -- register numbers are below 16
 pub record Registers (ins : Instruction) : Type 0 where
@@ -60,7 +60,7 @@ has-plain : (p : ℕ) (ins : Instruction) (j : ℕ)
     ≡ (eqb p (elementPlace (ins .vb .0) j)
     || (not (ins .scalar) && not (isConvert (ins .work))) && eqb p (elementPlace (ins .va .0) j)
     || (ins .moe || isMerge (kindOf (ins .work))) && eqb p (maskPlace j))
-has-plain p ins j = simp (has-append, has-one, has-when)
+has-plain p ins j = simp (has-append, has-one, has-place-if)
 
 three : (t m : Bool) {x x′ y y′ z z′ : Bool} → x ≡ x′ → y ≡ y′ → z ≡ z′ → (x || t && y || m && z) ≡ (x′ || t && y′ || m && z′)
 three t m e f g = cc
@@ -192,7 +192,7 @@ module _ (vlr j : ℕ) (few : vlr ≤ 64) (h : j < vlr) where
             ≡ (has (elementPlace (b .vb .0) j) zs
             || (not (b .scalar) && not (isConvert (b .work))) && has (elementPlace (b .va .0) j) zs
             || (b .moe || isMerge (kindOf (b .work))) && has (maskPlace j) zs)
-        meets-plain zs = simp (meet-append, meet-one, meet-when)
+        meets-plain zs = simp (meet-append, meet-one, meet-place-if)
 
         go : (v c : Bool) → v ≡ false → c ≡ false
             → (eqb (a .vc .0) (b .vb .0) || (not (b .scalar) && not (isConvert (b .work))) && eqb (a .vc .0) (b .va .0) || (b .moe || isMerge (kindOf (b .work))) && false)

@@ -21,7 +21,7 @@ use Rattle.state.specs.Elements.{at, matches}
 use Rattle.machine.specs.Step.{fieldOf, operated, first, received, registerBit, written, worked, elementStep}
 use Rattle.machine.specs.Step as Step
 use Rattle.queue.specs.Order.{Mem}
-use Rattle.queue.specs.Touch.{elementPlace, maskPlace, countPlace, isConvert, when, elementReads, writtenPlace}
+use Rattle.queue.specs.Touch.{elementPlace, maskPlace, countPlace, isConvert, placeIf, elementReads, writtenPlace}
 use Rattle.queue.proofs.Tests.{T-true}
 use Rattle.queue.proofs.Places.{mem-append-l, mem-append-r}
 use Rattle.queue.proofs.Binding.{Registers}
@@ -29,9 +29,9 @@ use Rattle.queue.proofs.Contents.{get, get-element, get-mask, marked, s
 use Rattle.queue.proofs.Commute.{HasVlr, Agree, Does}
 use Rattle.queue.proofs.Ignoring.{ignores-first, ignores-own, ignores-bit}
 
-mem-when : (t : Bool) (p : ℕ) → t ≡ true → Mem p (when t p)
-mem-when true p e = inl refl
-mem-when false p e = absurd (subst T (sym e) tt)
+mem-place-if : (t : Bool) (p : ℕ) → t ≡ true → Mem p (placeIf t p)
+mem-place-if true p e = inl refl
+mem-place-if false p e = absurd (subst T (sym e) tt)
 
 module _ (ins : Instruction) (i : ℕ) where
   reads-vb : Mem (elementPlace (ins .vb .0) i) (elementReads ins i)
@@ -40,16 +40,16 @@ module _ (ins : Instruction) (i : ℕ) where
   reads-va : (not (ins .scalar) && not (isConvert (ins .work))) ≡ true → Mem (elementPlace (ins .va .0) i) (elementReads ins i)
   reads-va e =
       mem-append-l (elementPlace (ins .va .0) i)
-      ((elementPlace (ins .vb .0) i ∷ []) ++ when (not (ins .scalar) && not (isConvert (ins .work))) (elementPlace (ins .va .0) i))
-      (when (ins .moe || isMerge (kindOf (ins .work))) (maskPlace i))
-      (inr (mem-when (not (ins .scalar) && not (isConvert (ins .work))) (elementPlace (ins .va .0) i) e))
+      ((elementPlace (ins .vb .0) i ∷ []) ++ placeIf (not (ins .scalar) && not (isConvert (ins .work))) (elementPlace (ins .va .0) i))
+      (placeIf (ins .moe || isMerge (kindOf (ins .work))) (maskPlace i))
+      (inr (mem-place-if (not (ins .scalar) && not (isConvert (ins .work))) (elementPlace (ins .va .0) i) e))
 
   reads-bit : (ins .moe || isMerge (kindOf (ins .work))) ≡ true → Mem (maskPlace i) (elementReads ins i)
   reads-bit e =
       mem-append-r (maskPlace i)
-      ((elementPlace (ins .vb .0) i ∷ []) ++ when (not (ins .scalar) && not (isConvert (ins .work))) (elementPlace (ins .va .0) i))
-      (when (ins .moe || isMerge (kindOf (ins .work))) (maskPlace i))
-      (mem-when (ins .moe || isMerge (kindOf (ins .work))) (maskPlace i) e)
+      ((elementPlace (ins .vb .0) i ∷ []) ++ placeIf (not (ins .scalar) && not (isConvert (ins .work))) (elementPlace (ins .va .0) i))
+      (placeIf (ins .moe || isMerge (kindOf (ins .work))) (maskPlace i))
+      (mem-place-if (ins .moe || isMerge (kindOf (ins .work))) (maskPlace i) e)
 
 module _ (n : ℕ) (ins : Instruction) (scalar i : ℕ) (regs : Registers ins) (small : i < 64) where
   -- ---- what it makes of what it reads

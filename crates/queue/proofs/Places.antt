@@ -10,7 +10,7 @@ use native.Mathlib.Decide.{ℕ-discrete}
 use lib.Dec.{T, eqb}
 use borrow.Author.Tests.{eq-eqb, ne-eqb}
 use Rattle.queue.specs.Order.{Mem, has}
-use Rattle.queue.specs.Touch.{when, below, meet, conflict}
+use Rattle.queue.specs.Touch.{placeIf, below, meet, conflict}
 use Rattle.queue.proofs.Tests.{T-or-l, T-or-r, or-T, has→mem, mem→has}
 
 pub same-bool : (a b : Bool) → (T a → T b) → (T b → T a) → a ≡ b
@@ -62,10 +62,10 @@ pub has-one : (x p : ℕ) → has x (p ∷ []) ≡ eqb x p
 unfolding has
 has-one x p = or-false (eqb x p)
 
-pub has-when : (x : ℕ) (t : Bool) (p : ℕ) → has x (when t p) ≡ (t && eqb x p)
+pub has-place-if : (x : ℕ) (t : Bool) (p : ℕ) → has x (placeIf t p) ≡ (t && eqb x p)
 unfolding has
-has-when x true p = or-false (eqb x p)
-has-when x false p = refl
+has-place-if x true p = or-false (eqb x p)
+has-place-if x false p = refl
 
 pub mem-append-l : (x : ℕ) (xs ys : List ℕ) → Mem x xs → Mem x (xs ++ ys)
 mem-append-l x [] ys m = absurd m
@@ -144,10 +144,10 @@ unfolding meet
 meet-append [] ys zs = refl
 meet-append (x ∷ xs) ys zs = ap (λ (b : Bool). has x zs || b) (meet-append xs ys zs) ∙ sym (or-assoc (has x zs) (meet xs zs) (meet ys zs))
 
-pub meet-when : (t : Bool) (p : ℕ) (zs : List ℕ) → meet (when t p) zs ≡ (t && has p zs)
+pub meet-place-if : (t : Bool) (p : ℕ) (zs : List ℕ) → meet (placeIf t p) zs ≡ (t && has p zs)
 unfolding meet
-meet-when true p zs = or-false (has p zs)
-meet-when false p zs = refl
+meet-place-if true p zs = or-false (has p zs)
+meet-place-if false p zs = refl
 
 -- what conflicts one way conflicts the other
 pub conflict-comm : (ra wa rb wb : List ℕ) → conflict ra wa rb wb ≡ conflict rb wb ra wa

@@ -51,8 +51,8 @@ countPlace = 1088
 abbrev pub isConvert : Work → Bool
 isConvert w = eqb (workNumber w) (workNumber Convert)
 
-abbrev pub when : Bool → ℕ → List ℕ
-when t p = pick t (p ∷ []) []
+abbrev pub placeIf : Bool → ℕ → List ℕ
+placeIf t p = pick t (p ∷ []) []
 
 -- f at 0 to n - 1
 unfoldable pub below : ℕ → (ℕ → ℕ) → List ℕ
@@ -63,8 +63,8 @@ below (suc n) f = below n f ++ (f n ∷ [])
 abbrev pub elementReads : Instruction → ℕ → List ℕ
 elementReads ins i =
     (elementPlace (ins .vb .0) i ∷ [])
-    ++ when (not (ins .scalar) && not (isConvert (ins .work))) (elementPlace (ins .va .0) i)
-    ++ when (ins .moe || isMerge (kindOf (ins .work))) (maskPlace i)
+    ++ placeIf (not (ins .scalar) && not (isConvert (ins .work))) (elementPlace (ins .va .0) i)
+    ++ placeIf (ins .moe || isMerge (kindOf (ins .work))) (maskPlace i)
 
 -- it writes Vc, or VMR<i> for compare
 abbrev pub writtenPlace : Instruction → ℕ → ℕ

@@ -16,6 +16,9 @@ ghost use Rattle.queue.specs.Reply.{replyAnswer};
 ghost use Rattle.queue.specs.Run.{outcome};
 ghost use Rattle.running.specs.Runner.{fileSize, recordsRun, inputRun, inputPrinted, none};
 
+// The bytes that hold every answer's line and every listing.
+const TEXT_ROOM: usize = 25705;
+
 // What a run gives back, and the control record after it.
 struct Ended {
     number: u64,
@@ -138,7 +141,7 @@ fn run_input(elements: &mut [u64; 1024], input: &[u8]) -> Ended
 pub fn print_run(input: &[u8], text: &mut [u8]) -> Listed
     ensures { λ r. ⌜ (listedAnswer r, now (text .exit)) ≡ inputPrinted (now (input .entry)) (now (text .entry)) ⌝ }
 {
-    if text.len() < 25705 {
+    if text.len() < TEXT_ROOM {
         return Listed::NoRoom;
     }
     let mut elements = [0u64; 1024];

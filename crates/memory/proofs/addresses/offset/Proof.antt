@@ -1,14 +1,14 @@
 -- `offset` meets its contract: the places below i are filled. Assumes nothing.
 use Prim.Native.Nat.{_≤_, _-_}
 use native.Mathlib.Omega.{arith}
-use Rattle.memory.specs.Address.{offsetBy, Listed}
+use Rattle.memory.specs.Address.{offsetBy, AddressesBelow}
 use Rattle.memory.proofs.Filling.{lists-next, lists-all}
 use borrow.Author.Needs.{needs}
 use Rattle.memory.proofs.addresses.offset.Statement.{statement}
 use Rattle.memory.proofs.addresses.offset.Tie as tie
 
 abbrev Inv-loop : tie.InvT-loop
-Inv-loop addresses₀ elements base vb n i₀ addresses i = (i ≤ n) × Listed (offsetBy base elements (vb .0)) i addresses
+Inv-loop addresses₀ elements base vb n i₀ addresses i = (i ≤ n) × AddressesBelow (offsetBy base elements (vb .0)) i addresses
 
 abbrev μ-loop : tie.MeasureT-loop
 μ-loop addresses₀ elements base vb n i₀ addresses i = n - i

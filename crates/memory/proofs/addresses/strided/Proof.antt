@@ -2,14 +2,14 @@
 use mathlib.Core.Path.{_≡_}
 use Prim.Native.Nat.{_≤_, _-_}
 use native.Mathlib.Omega.{arith}
-use Rattle.memory.specs.Address.{strided as stridedOf, Listed}
+use Rattle.memory.specs.Address.{strided as stridedOf, AddressesBelow}
 use Rattle.memory.proofs.Filling.{lists-next, lists-all, strides, first}
 use borrow.Author.Needs.{needs}
 use Rattle.memory.proofs.addresses.strided.Statement.{statement}
 use Rattle.memory.proofs.addresses.strided.Tie as tie
 
 abbrev Inv-loop : tie.InvT-loop
-Inv-loop addresses₀ base stride n address₀ i₀ addresses address i = (i ≤ n) × (address ≡ stridedOf base stride i) × Listed (stridedOf base stride) i addresses
+Inv-loop addresses₀ base stride n address₀ i₀ addresses address i = (i ≤ n) × (address ≡ stridedOf base stride i) × AddressesBelow (stridedOf base stride) i addresses
 
 abbrev μ-loop : tie.MeasureT-loop
 μ-loop addresses₀ base stride n address₀ i₀ addresses address i = n - i

@@ -34,18 +34,18 @@ of-element-requires c κs =
     let loop = c .before .before .loop in
     (search needs, omega (arith, below (loop .inv .0) (omega arith) (c .lowest .ensures)))
 
+one-requires : tie.Need-one-requires Inv-loop μ-loop
+one-requires c κs = search needs
+
 mul-addresses : tie.Need-mul-addresses Inv-loop μ-loop
 mul-addresses c =
-    let at = c .before in let loop = at .before .before .loop in
+    let at = c .before .before in let loop = at .before .before .loop in
     record { fits = omega (arith, below (loop .inv .0) (omega arith) (at .lowest .ensures)) }
 
 element-write-addresses : tie.Need-element-write-addresses Inv-loop μ-loop
 element-write-addresses c =
-    let at = c .before in let loop = at .before .before .loop in
+    let at = c .before .before in let loop = at .before .before .loop in
     omega (arith, below (loop .inv .0) (omega arith) (at .lowest .ensures))
-
-one-requires : tie.Need-one-requires Inv-loop μ-loop
-one-requires c κs = search needs
 
 enum-told : tie.Need-enum-told Inv-loop μ-loop
 enum-told c = search needs
@@ -101,9 +101,9 @@ search-spec =
     loop-holds
     lowest-requires
     of-element-requires
+    one-requires
     mul-addresses
     element-write-addresses
-    one-requires
     enum-told
     enum-told-2
     returns
