@@ -36,7 +36,8 @@
  *
  * C cuts an argument to its parameter's width and says nothing. So numbers that are tested are taken
  * wide (a register, an element and a kind in 32 bits, a new VLR or VCR in 64), and nothing is cut before
- * it is tested: 256 is no register 0 but gets 13, and 2^32 + 1 is no VLR 1 but gets 11.
+ * it is tested: 256 is no register 0 but gets 13, and 2^32 + 1 is no VLR 1 but gets 11. An opcode has
+ * 8 bits, a control word 16, a half of VMR and a value of VPSR 32.
  *
  * A slice is a pointer and then a length, counted in items; the pointer of an empty slice is never
  * read, and may be NULL. Arrays, slices and results lent to one call do not overlap, unless all are
