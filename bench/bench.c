@@ -574,17 +574,14 @@ static void by_list(const char *work, int n)
 static const struct {
     const struct instruction *instructions;
     uint64_t (*operand)(void);
-    const char *straight, *lists[3], *short_lists[2];
+    const char *straight, *lists[3];
 } queues_timed[] = {
     { exclusive_ors, any, "16 exclusive ors",
-      { "exclusive ors, queue order", "exclusive ors, element after element", "exclusive ors, random order" },
-      { "exclusive ors, random order at VLR 2", "exclusive ors, random order at VLR 3" } },
+      { "exclusive ors, queue order", "exclusive ors, element after element", "exclusive ors, random order" } },
     { whole_numbers, longword, "16 integer instructions",
-      { "integer, queue order", "integer, element after element", "integer, random order" },
-      { "integer, random order at VLR 2", "integer, random order at VLR 3" } },
+      { "integer, queue order", "integer, element after element", "integer, random order" } },
     { heat_steps, ordinary, "16 mixed instructions",
-      { "mixed, queue order", "mixed, element after element", "mixed, random order" },
-      { "mixed, random order at VLR 2", "mixed, random order at VLR 3" } },
+      { "mixed, queue order", "mixed, element after element", "mixed, random order" } },
 };
 enum { TIMED = sizeof queues_timed / sizeof queues_timed[0] };
 
@@ -619,14 +616,17 @@ static void queues(void)
     }
     end_within("entry", list_limit, "LIST_LIMIT");
 
-    /* VLR 2 and 3. No group has these rows. */
+    /* Short vectors. No group has these rows. */
     begin("short queue");
-    for (vlr = 2; vlr <= 3; vlr++)
+    for (vlr = 4; vlr <= 8; vlr += 4)
         for (int q = 0; q < TIMED; q++) {
+            char work[80];
             use_queue(q);
-            row(queues_timed[q].straight, "element", passes_run, call_run, STATES, QUEUE * vlr, 0, 0);
+            snprintf(work, sizeof work, "%s at VLR %d", queues_timed[q].straight, vlr);
+            row(work, "element", passes_run, call_run, STATES, QUEUE * vlr, 0, 0);
             random_orders();
-            by_list(queues_timed[q].short_lists[vlr - 2], ORDERS * STATES);
+            snprintf(work, sizeof work, "%s at VLR %d", queues_timed[q].lists[2], vlr);
+            by_list(work, ORDERS * STATES);
         }
     vlr = 64;
     use_queue(1);
