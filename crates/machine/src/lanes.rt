@@ -381,9 +381,14 @@ pub fn some(
     let code = element::code(work);
     let exc = instruction.exc;
     let scalar = instruction.scalar;
-    let va = Register(instruction.va.0 as usize);
     let vb = Register(instruction.vb.0 as usize);
     let vc = Register(instruction.vc.0 as usize);
+    // A conversion is no register.
+    if code == 14 {
+        let conversion = instruction.va.0 as u64;
+        return conversions(elements, exc, conversion, vb, vc, which);
+    }
+    let va = Register(instruction.va.0 as usize);
     match code {
         1 => chosen(elements, 1, exc, mask, scalar, x, va, vb, vc, which),
         2 => chosen(elements, 2, exc, mask, scalar, x, va, vb, vc, which),
@@ -397,10 +402,6 @@ pub fn some(
         10 => totals(elements, false, exc, scalar, x, va, vb, vc, which),
         11 => totals(elements, true, exc, scalar, x, va, vb, vc, which),
         12 => products(elements, exc, scalar, x, va, vb, vc, which),
-        14 => {
-            let conversion = instruction.va.0 as u64;
-            conversions(elements, exc, conversion, vb, vc, which)
-        }
         // No register instruction has another number.
         _ => chosen(elements, code, exc, mask, scalar, x, va, vb, vc, which),
     }
@@ -422,6 +423,10 @@ fn all(
     let code = element::code(work);
     let exc = instruction.exc;
     let scalar = instruction.scalar;
+    // A conversion is no register.
+    if code == 14 {
+        return some(elements, instruction, x, mask, which);
+    }
     let va = Register(instruction.va.0 as usize);
     let vb = Register(instruction.vb.0 as usize);
     let vc = Register(instruction.vc.0 as usize);
