@@ -5,6 +5,7 @@ pub mod Delivering
 pub mod Align
 pub mod Refusing
 pub mod Products
+pub mod Quotients
 pub mod Packing
 pub mod Magnitude
 pub mod Sums

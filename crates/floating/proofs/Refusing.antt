@@ -1,6 +1,6 @@
 -- What an element receives of an outcome, and a reserved operand, which decides first. Assumes nothing.
 use mathlib.Core.Path.{_≡_, refl, sym, ap, _∙_}
-use mathlib.Core.Bool.{Bool, true, false, cond, _||_}
+use mathlib.Core.Bool.{Bool, true, false, cond, _&&_, _||_}
 use Prim.Native.Nat.{ℕ}
 use native.Mathlib.Omega.{arith}
 use lib.Dec.{eqb}
@@ -45,6 +45,11 @@ module _ (p q t u : Bool) (x : Outcome) (ht : t ≡ p) (hu : u ≡ q) where
       go true u h = let z : _≡_ {A = ℕ} 0 1 = cc in absurd (omega arith)
       go false true h = let z : _≡_ {A = ℕ} 0 1 = cc in absurd (omega arith)
       go false false h = refl
+
+-- ---- two tests of one word
+pub both-tests : (x y : Bool) → (x && y) ≡ cond x y false
+both-tests true y = refl
+both-tests false y = refl
 
 -- ---- one test for both exponents
 module _ (f : Format) (a b : ℕ) where

@@ -20,7 +20,7 @@ use Rattle.floating.proofs.Arithmetic.{sub-mul, double-power}
 use Rattle.floating.proofs.Rounding.{normal-64, room, floor-normal, floor-near, itself-normal, itself-near, itself-carried}
 use Rattle.floating.proofs.Delivering.{judged-word, delivered-zero, delivered-near, delivered-same}
 use Rattle.floating.proofs.Align.{none-joint, some-long}
-use Rattle.floating.proofs.Products.{size-none, size-some}
+use Rattle.floating.proofs.Products.{size-none, size-some, size-fields}
 use Rattle.floating.proofs.Packing.{Sound, F-sound, fraction-lt, exponent-lt, magnitude-word}
 use Rattle.floating.proofs.Magnitude.{apart, at-most, sized}
 use Rattle.floating.proofs.Refusing.{passed, number-free}
@@ -111,7 +111,7 @@ module _ (f : Format) where
   alone-delivered s w e m P he ne hm lo hi =
       let u = f .bits + f .excess in
       let plain : 0 + e - 0 ≡ e = omega arith in
-      let z : sizeOf f w ≡ m * 2 ^ e = size-some f w (λ y. ne (he ∙ y)) ∙ ap (λ (y : ℕ). y * 2 ^ exponentOf f w) (sym hm) ∙ ap (λ (y : ℕ). m * 2 ^ y) (sym he) in
+      let z : sizeOf f w ≡ m * 2 ^ e = size-fields f w e m he ne hm in
       ap (λ (x : Rounded). judged f s e (x .sig) (x .exp)) (sym (itself-carried (f .bits) m lo hi e))
       ∙ ap (λ (y : ℕ). settled f s y m) (sym plain)
       ∙ delivered-near f s (m * 2 ^ e) (2 ^ u) m 1 0 m e 0 P (pow-pos u) (lit< tt) (mul-one (m * 2 ^ e * 2 ^ u)) (itself-normal (f .bits) m lo hi) (itself-near (f .bits) m lo hi)

@@ -48,3 +48,7 @@ minus x y = plus x (negative y)
 
 abbrev pub times : Exact → Exact → Exact
 times x y = record { sign = (x .sign + y .sign) % 2; num = x .num * y .num; den = x .den * y .den }
+
+-- x over y, where y is not zero
+abbrev pub over : Exact → Exact → Exact
+over x y = record { sign = (x .sign + y .sign) % 2; num = x .num * y .den; den = x .den * y .num }

@@ -41,7 +41,11 @@ significandOf f w = 2 ^ (f .bits - 1) + fractionOf f w
 abbrev pub wordOf : Format → ℕ → ℕ → ℕ → ℕ
 wordOf f s e x = s * 32768 + e * 2 ^ (f .lowest) + x / 65536 ^ (f .further) + upward (f .further) (x % 65536 ^ (f .further)) * 65536
 
--- exponent 0 with sign 1
+-- exponent 0 with sign 0, for every fraction
+abbrev pub isZero : Format → ℕ → Bool
+isZero f w = cond (eqb (exponentOf f w) 0) (eqb (signOf f w) 0) false
+
+-- exponent 0 with sign 1, for every fraction
 abbrev pub isReserved : Format → ℕ → Bool
 isReserved f w = cond (eqb (exponentOf f w) 0) (eqb (signOf f w) 1) false
 

@@ -1,24 +1,26 @@
--- What an element receives from the floating operations (document 01, "What an element receives"): the value it leaves, and the type bits that VAER records. Definitions only.
+-- What an element receives from the floating operations (document 01, "What an element receives"; document 02, Q-1, for division): the value it leaves, and the type bits that VAER records. Definitions only.
 use Prim.Native.Nat.{ℕ, _+_, _-_, _%_}
-use mathlib.Core.Bool.{Bool, false, not, cond}
+use mathlib.Core.Bool.{Bool, false, not, cond, _&&_}
 use lib.Dec.{eqb, ltb}
-use Rattle.floating.specs.Format.{Format, isReserved}
-use Rattle.floating.specs.Exact.{Exact, valueOf, longwordValue, plus, minus, times}
+use Rattle.floating.specs.Format.{Format, isZero, isReserved}
+use Rattle.floating.specs.Exact.{Exact, valueOf, longwordValue, plus, minus, times, over}
 use Rattle.floating.specs.Round.{near, chopped}
 use Rattle.floating.specs.Delivered.{delivered}
 use Rattle.floating.specs.declared.Outcome.{Outcome}
-use Rattle.floating.specs.declared.Outcome.the-variants.{Word, Overflow, Underflow, Reserved}
+use Rattle.floating.specs.declared.Outcome.the-variants.{Word, Overflow, Underflow, Reserved, DivisionByZero, ReservedByZero}
 use Rattle.floating.specs.declared.Answer.{Answer}
 use Rattle.floating.specs.declared.Compared.{Compared}
 
--- Exceptions write 00008000 plus type: 1 underflow, only with EXC, else zero; 4 reserved operand; 8 overflow. VAER gets the bit of that type: bit 0, 2 or 3, which is the type's own number.
+-- Exceptions write 00008000 plus type: 1 underflow, only with EXC, else zero; 4 reserved operand; 8 overflow. Document 02, Q-1: 2 division by zero; 6 a reserved operand divided by zero, which is both. VAER gets the bits that are ones in the type: bit 0, 1, 2 or 3, and for 6 the bits 1 and 2.
 abbrev pub answered : Bool → Outcome → Answer
 answered exc (Word w) = record { value = w; types = 0 }
 answered exc Overflow = record { value = 0x8008; types = 8 }
 answered exc Underflow = cond exc (record { value = 0x8001; types = 1 }) (record { value = 0; types = 0 })
 answered exc Reserved = record { value = 0x8004; types = 4 }
+answered exc DivisionByZero = record { value = 0x8002; types = 2 }
+answered exc ReservedByZero = record { value = 0x8006; types = 6 }
 
--- A reserved operand on either side decides first.
+-- A reserved operand on either side decides first (in a quotient, after a divisor that is zero).
 abbrev pub both : Format → (Exact → Exact → Exact) → ℕ → ℕ → Outcome
 both f op a b =
     cond (isReserved f a) Reserved
@@ -34,6 +36,13 @@ difference f a b = both f minus a b
 
 abbrev pub product : Format → ℕ → ℕ → Outcome
 product f a b = both f times a b
+
+-- Va divided by Vb (document 02, Q-1). The first of these that holds: a reserved operand divided by zero; division by zero, zero by zero included; any other reserved operand. Else the exact quotient.
+abbrev pub quotient : Format → ℕ → ℕ → Outcome
+quotient f a b =
+    cond (isReserved f a && isZero f b) ReservedByZero
+    (cond (isZero f b) DivisionByZero
+    (both f over a b))
 
 -- ---- compare
 

@@ -1,8 +1,9 @@
-// F_floating (document 01, "What an element receives"): each function equals a definition of `specs/` for every input.
+// F_floating (document 01, "What an element receives"; document 02, Q-1): each function equals a definition of `specs/` for every input.
 mod convert;
 mod deliver;
 mod order;
 mod product;
+mod quotient;
 mod read;
 mod round;
 mod sum;
@@ -12,7 +13,7 @@ ghost use mathlib.Core.Path.{_≡_};
 ghost use mathlib.Core.Bool.{Bool, true, false, cond};
 ghost use Rattle.floating.specs.Format.{F, isRare};
 ghost use Rattle.floating.specs.Reading.{Shows, longwordReading, kindOf, bitsOf};
-ghost use Rattle.floating.specs.Operations.{answered, sum, difference, product, compared, roundedLongword, truncatedLongword, fromLongword};
+ghost use Rattle.floating.specs.Operations.{answered, sum, difference, product, quotient, compared, roundedLongword, truncatedLongword, fromLongword};
 
 // What an operation gives, before EXC is looked at: the promises speak of it, and the calls hand out the answer to it.
 pub enum Outcome {
@@ -20,6 +21,8 @@ pub enum Outcome {
     Overflow,
     Underflow,
     Reserved,
+    DivisionByZero,
+    ReservedByZero,
 }
 
 // The 32 bits that an element receives, and the type bits that VAER records.
@@ -96,6 +99,17 @@ pub fn multiply(a: u32, b: u32, exc: bool) -> Answer
     ensures { λ r. ⌜ r ≡ answered exc (product F a b) ⌝ }
 {
     let r = product::of_words(exc, a, b);
+    Answer {
+        value: r.value,
+        types: r.types,
+    }
+}
+
+// a divided by b
+pub fn divide(a: u32, b: u32, exc: bool) -> Answer
+    ensures { λ r. ⌜ r ≡ answered exc (quotient F a b) ⌝ }
+{
+    let r = quotient::of_words(exc, a, b);
     Answer {
         value: r.value,
         types: r.types,

@@ -17,7 +17,8 @@ fn whole_product(a: u64, b: u64) -> u64
     a * b
 }
 
-fn sign_of_product(a: u32, b: u32) -> u32
+// The sign of a quotient too.
+pub fn sign_of_product(a: u32, b: u32) -> u32
     ensures { λ r. ⌜ (r ≡ (signOf F a + signOf F b) % 2) × (r < 2) ⌝ }
 {
     word::chosen(word::sign_of(a) == word::sign_of(b), 0, 1)

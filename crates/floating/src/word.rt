@@ -1,7 +1,7 @@
 // The fields of a word.
 ghost use mathlib.Core.Path.{_≡_};
 ghost use mathlib.Core.Bool.{cond};
-ghost use Rattle.floating.specs.Format.{F, signOf, exponentOf, fractionOf, significandOf, isReserved};
+ghost use Rattle.floating.specs.Format.{F, signOf, exponentOf, fractionOf, significandOf, isZero, isReserved};
 ghost use Rattle.floating.specs.Steps.{turned as turnedWord, magnitude};
 
 pub fn wide(x: u32) -> u64
@@ -46,6 +46,12 @@ pub fn significand_of(word: u32) -> u64
     ensures { λ r. ⌜ r ≡ significandOf F word ⌝ }
 {
     wide(8388608 + fraction_of(word))
+}
+
+pub fn is_zero(word: u32) -> bool
+    ensures { λ r. ⌜ r ≡ isZero F word ⌝ }
+{
+    (word / 128 % 256 == 0) & (word / 32768 % 2 == 0)
 }
 
 pub fn is_reserved(word: u32) -> bool

@@ -1,17 +1,12 @@
 -- `floating::word::is_reserved` meets its contract. Assumes nothing.
-use mathlib.Core.Path.{_≡_, refl}
-use mathlib.Core.Bool.{Bool, true, false, cond, _&&_}
 use Prim.Native.Nat.{_/_, _%_}
 use lib.Dec.{eqb}
+use Rattle.floating.proofs.Refusing.{both-tests}
 use Rattle.floating.proofs.word.is_reserved.Statement.{statement}
 use Rattle.floating.proofs.word.is_reserved.Tie as tie
 
 returns : tie.Need-returns
 returns c = both-tests (eqb (c .args .word / 128 % 256) 0) (eqb (c .args .word / 32768 % 2) 1)
-  where
-    both-tests : (x y : Bool) → (x && y) ≡ cond x y false
-    both-tests true y = refl
-    both-tests false y = refl
 
 pub is-reserved-spec : {M : Type 1} → statement M
 is-reserved-spec = tie.close (tie.spec returns)

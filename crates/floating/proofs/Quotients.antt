@@ -1,0 +1,118 @@
+-- The quotient of two words, from the whole part of the quotient of their significands. Over the format. Assumes nothing.
+use mathlib.Core.Path.{_≡_, refl, sym, ap, _∙_}
+use mathlib.Core.Bool.{Bool, true, false, cond, _&&_, _||_}
+use Prim.Native.Nat.{ℕ, _+_, _-_, _*_, _/_, _%_, _^_, _≤_, _<_}
+use native.Mathlib.Nat.{zero-mul, mul-comm, mul-assoc, mul-left-comm, mul-pos, le-div-iff-mul-le, div-lt-iff-lt-mul, mod-lt}
+use native.Mathlib.Omega.{arith}
+use lib.Dec.{eqb, lit<}
+use lib.Pow.{pow-add, pow-pos}
+use borrow.Author.Tests.{ne-eqb, eqb-true, eqb-false}
+use Rattle.floating.specs.declared.Outcome.{Outcome}
+use Rattle.floating.specs.declared.Outcome.the-variants.{Word, DivisionByZero, ReservedByZero}
+use Rattle.floating.specs.Format.{Format, F, signOf, exponentOf, significandOf, isZero, isReserved}
+use Rattle.floating.specs.Exact.{sizeOf, valueOf, over}
+use Rattle.floating.specs.Round.{near}
+use Rattle.floating.specs.Delivered.{delivered}
+use Rattle.floating.specs.Operations.{answered, both, quotient}
+use Rattle.floating.specs.Steps.{Normal, settled}
+use Rattle.floating.proofs.Rounding.{normal-64, room, floor-normal, floor-near}
+use Rattle.floating.proofs.Delivering.{delivered-zero, delivered-near}
+use Rattle.floating.proofs.Refusing.{passed, number-free}
+use Rattle.floating.proofs.Products.{size-none, size-fields, rare-both}
+
+-- ---- the cases of a quotient
+module _ (f : Format) (a b : ℕ) where
+  pub by-zero : (o : Outcome) → isZero f b ≡ true → o ≡ cond (isReserved f a) ReservedByZero DivisionByZero → o ≡ quotient f a b
+  by-zero o h e = e ∙ go (isReserved f a) ∙ ap (λ (z : Bool). cond (isReserved f a && z) ReservedByZero (cond z DivisionByZero (both f over a b))) (sym h)
+    where
+      go : (p : Bool) → cond p ReservedByZero DivisionByZero ≡ cond (p && true) ReservedByZero DivisionByZero
+      go true = refl
+      go false = refl
+
+  pub by-number : isZero f b ≡ false → both f over a b ≡ quotient f a b
+  by-number h = go (isReserved f a) ∙ ap (λ (z : Bool). cond (isReserved f a && z) ReservedByZero (cond z DivisionByZero (both f over a b))) (sym h)
+    where
+      go : (p : Bool) → both f over a b ≡ cond (p && false) ReservedByZero (both f over a b)
+      go true = refl
+      go false = refl
+
+  -- the dividend is zero
+  pub no-quotient : exponentOf f a ≡ 0 → Word 0 ≡ delivered f (over (valueOf f a) (valueOf f b))
+  no-quotient h = let w = f .bits + f .excess in sym (delivered-zero f (over (valueOf f a) (valueOf f b)) (ap (λ (z : ℕ). z * 2 ^ w) (size-none f a h) ∙ zero-mul (2 ^ w)))
+
+  -- ---- neither is zero or reserved: ma moved up u places, over mb, is near m at the unit 2 ^ k
+  pub quotient-delivered : (s u k ea eb ma mb m : ℕ) → 0 < f .bits → 0 < mb → s ≡ (signOf f a + signOf f b) % 2 → ea ≡ exponentOf f a → (ea ≡ 0 → ⊥) → eb ≡ exponentOf f b → (eb ≡ 0 → ⊥) → ma ≡ significandOf f a → mb ≡ significandOf f b → Normal (f .bits) (ma * 2 ^ u) mb k → m ≡ near (ma * 2 ^ u) (mb * 2 ^ k)
+      → settled f s (k + (ea + (f .bits + f .excess)) - (eb + u)) m ≡ delivered f (over (valueOf f a) (valueOf f b))
+  quotient-delivered s u k ea eb ma mb m P B hs hea na heb nb hma hmb N hm =
+      let w = f .bits + f .excess in
+      let one : sizeOf f a ≡ ma * 2 ^ ea = size-fields f a ea ma hea na hma in
+      let two : sizeOf f b ≡ mb * 2 ^ eb = size-fields f b eb mb heb nb hmb in
+      delivered-near f s (ma * 2 ^ ea * 2 ^ w) (2 ^ w * (mb * 2 ^ eb)) (ma * 2 ^ u) mb k m (ea + w) (eb + u) P (mul-pos (pow-pos w) (mul-pos B (pow-pos eb))) B (joined ma mb ea eb w u) N hm
+      ∙ ap (λ (y : ℕ). delivered f (record { sign = y; num = ma * 2 ^ ea * 2 ^ w; den = 2 ^ w * (mb * 2 ^ eb) })) hs
+      ∙ ap (λ (y : ℕ). delivered f (record { sign = (signOf f a + signOf f b) % 2; num = y * 2 ^ w; den = 2 ^ w * (mb * 2 ^ eb) })) (sym one)
+      ∙ ap (λ (y : ℕ). delivered f (record { sign = (signOf f a + signOf f b) % 2; num = sizeOf f a * 2 ^ w; den = 2 ^ w * y })) (sym two)
+    where
+      joined : (x y i j l u : ℕ) → x * 2 ^ i * 2 ^ l * 2 ^ l * (y * 2 ^ (j + u)) ≡ x * 2 ^ u * 2 ^ (i + l) * (2 ^ l * (y * 2 ^ j))
+      joined x y i j l u = simp (pow-add, mul-assoc, mul-comm, mul-left-comm)
+
+-- ---- as the code makes it
+-- the whole part of a quotient of two significands of 24 digits, the first moved up 25 places
+pub whole-in : (a b : ℕ) → 8388608 ≤ a → a < 16777216 → 8388608 ≤ b → b < 16777216 → (16777216 ≤ a * 33554432 / b) × (a * 33554432 / b < 67108864)
+whole-in a b alo ahi blo bhi =
+    let B : 0 < b = omega arith in
+    let lo : 16777216 * b ≤ a * 33554432 = omega arith in
+    let hi : a * 33554432 < 67108864 * b = omega arith in
+    (le-div-iff-mul-le B .1 lo, div-lt-iff-lt-mul B .1 hi)
+
+pub rare-by-zero : (a b : ℕ) (p : Bool) (v y : ℕ) → isZero F b ≡ true → p ≡ isReserved F a → v ≡ cond p 0x8006 0x8002 → y ≡ cond p 6 2 → (exc : Bool) → record { value = v; types = y } ≡ answered exc (quotient F a b)
+rare-by-zero a b p v y h hp hv hy exc =
+    ap (λ (z : ℕ). record { value = z; types = y }) hv
+    ∙ ap (λ (z : ℕ). record { value = cond p 0x8006 0x8002; types = z }) hy
+    ∙ go p
+    ∙ ap (answered exc) (by-zero F a b (cond p ReservedByZero DivisionByZero) h (ap (λ (z : Bool). cond z ReservedByZero DivisionByZero) hp))
+  where
+    go : (t : Bool) → record { value = cond t 0x8006 0x8002; types = cond t 6 2 } ≡ answered exc (cond t ReservedByZero DivisionByZero)
+    go true = refl
+    go false = refl
+
+-- what is neither zero nor reserved has an exponent
+some-number : (w : ℕ) → isZero F w ≡ false → isReserved F w ≡ false → exponentOf F w ≡ 0 → ⊥
+some-number w hz hr e = go (eqb (exponentOf F w) 0) (eqb (signOf F w) 0) (eqb (signOf F w) 1) refl refl refl hz hr
+  where
+    go : (x y z : Bool) → eqb (exponentOf F w) 0 ≡ x → eqb (signOf F w) 0 ≡ y → eqb (signOf F w) 1 ≡ z → cond x y false ≡ false → cond x z false ≡ false → ⊥
+    go true true z ex ey ez p q = let u : _≡_ {A = ℕ} 0 1 = cc in absurd (omega arith)
+    go true false true ex ey ez p q = let u : _≡_ {A = ℕ} 0 1 = cc in absurd (omega arith)
+    go true false false ex ey ez p q =
+        let l : signOf F w < 2 = mod-lt (w / 32768) (lit< tt) in
+        let n = eqb-false (signOf F w) 0 ey in
+        let m = eqb-false (signOf F w) 1 ez in
+        omega (arith, n, m)
+    go false y z ex ey ez p q = eqb-false (exponentOf F w) 0 ex e
+
+pub rare-quotient : (a b : ℕ) (p q : Bool) (v y : ℕ) → ((exponentOf F a ≡ 0 → ⊥) → exponentOf F b ≡ 0) → isZero F b ≡ false → p ≡ isReserved F a → q ≡ isReserved F b → v ≡ cond (p || q) 0x8004 0 → y ≡ cond (p || q) 4 0 → (exc : Bool) → record { value = v; types = y } ≡ answered exc (quotient F a b)
+rare-quotient a b p q v y h hz hp hq hv hy exc = rare-both over a b p q v y zero hp hq hv hy exc ∙ ap (answered exc) (by-number F a b hz)
+  where
+    second : (s t : Bool) → (s || t) ≡ false → t ≡ false
+    second true t e = let u : _≡_ {A = ℕ} 0 1 = cc in absurd (omega arith)
+    second false t e = e
+
+    zero : (p || q) ≡ false → Word 0 ≡ delivered F (over (valueOf F a) (valueOf F b))
+    zero e = no-quotient F a b (go (eqb (exponentOf F a) 0) refl)
+      where
+        go : (t : Bool) → eqb (exponentOf F a) 0 ≡ t → exponentOf F a ≡ 0
+        go true g = eqb-true (exponentOf F a) 0 g
+        go false g = absurd (some-number b hz (sym hq ∙ second p q e) (h (eqb-false (exponentOf F a) 0 g)))
+
+pub quotient-settled : (a b s z ea eb ma mb x y m : ℕ) → s ≡ (signOf F a + signOf F b) % 2 → ea ≡ exponentOf F a → eb ≡ exponentOf F b → (exponentOf F a ≡ 0 → ⊥) → (exponentOf F b ≡ 0 → ⊥) → ma ≡ significandOf F a → mb ≡ significandOf F b → x ≡ ma * 33554432 / mb → 16777216 ≤ x → 9223372036854775808 ≤ x * 2 ^ z → x * 2 ^ z < 18446744073709551616 → y ≡ x * 2 ^ z → m ≡ near y 1099511627776 → settled F s (ea + 167 - (eb + z)) m ≡ quotient F a b
+quotient-settled a b s z ea eb ma mb x y m hs hea heb na nb hma hmb hx long lo hi hy hm =
+    let B : 0 < mb = omega arith in
+    let N = normal-64 (x * 2 ^ z) lo hi in
+    let r = room 24 (lit< tt) (ma * 33554432) mb x z 40 B hx long N in
+    ap (λ (v : ℕ). settled F s v m) (moved ea eb z r)
+    ∙ quotient-delivered F a b s 25 (40 - z) ea eb ma mb m (lit< tt) B hs hea (λ v. na (sym hea ∙ v)) heb (λ v. nb (sym heb ∙ v)) hma hmb (floor-normal 24 (lit< tt) (ma * 33554432) mb x z 40 B hx long N)
+    (hm ∙ ap (λ (v : ℕ). near v 1099511627776) hy ∙ floor-near 24 (lit< tt) (ma * 33554432) mb x z 40 B hx long N)
+    ∙ passed (isReserved F a) (isReserved F b) false false (delivered F (over (valueOf F a) (valueOf F b))) (number-free F a na) (number-free F b nb) refl
+    ∙ by-number F a b (simp (ne-eqb (exponentOf F b) 0 nb))
+  where
+    moved : (e d z : ℕ) → z < 40 → e + 167 - (d + z) ≡ 40 - z + (e + 152) - (d + 25)
+    moved e d z h = omega arith

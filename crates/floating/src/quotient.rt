@@ -1,0 +1,67 @@
+// The quotient of two words (document 02, Q-1).
+use crate::Answer;
+use crate::deliver;
+use crate::product;
+use crate::round;
+use crate::word;
+ghost use mathlib.Core.Path.{_≡_};
+ghost use mathlib.Core.Bool.{Bool, true};
+ghost use Prim.Native.Nat.{_*_, _/_, _<_, _≤_};
+ghost use Rattle.floating.specs.Format.{F, isRare};
+ghost use Rattle.floating.specs.Operations.{answered, quotient};
+
+// The whole part of the quotient of two significands, the dividend moved up 25 places: 25 digits at least, one more than are kept. No digit past these makes or
+// unmakes a half, so it decides the rounding.
+fn whole_quotient(a: u64, b: u64) -> u64
+    requires { ⌜ (8388608 ≤ a) × (a < 16777216) × (8388608 ≤ b) × (b < 16777216) ⌝ }
+    ensures { λ r. ⌜ (r ≡ a * 33554432 / b) × (16777216 ≤ r) × (r < 67108864) ⌝ }
+{
+    a * 33554432 / b
+}
+
+// One of the two is zero or reserved.
+fn divide_rare(a: u32, b: u32) -> Answer
+    requires { ⌜ isRare F a b ≡ true ⌝ }
+    ensures { λ r. ⌜ ((exc : Bool) → r ≡ answered exc (quotient F a b)) ⌝ }
+{
+    if word::is_zero(b) {
+        let reserved = word::is_reserved(a);
+        return Answer {
+            value: word::chosen(reserved, 0x8006, 0x8002),
+            types: word::chosen(reserved, 6, 2),
+        };
+    }
+    let reserved = word::is_reserved(a) | word::is_reserved(b);
+    Answer {
+        value: word::chosen(reserved, 0x8004, 0),
+        types: word::chosen(reserved, 4, 0),
+    }
+}
+
+pub fn of_words(exc: bool, a: u32, b: u32) -> Answer
+    ensures { λ r. ⌜ r ≡ answered exc (quotient F a b) ⌝ }
+{
+    let ea = word::exponent_of(a);
+    let eb = word::exponent_of(b);
+    if (ea == 0) | (eb == 0) {
+        let r = divide_rare(a, b);
+        return Answer {
+            value: r.value,
+            types: r.types,
+        };
+    }
+    let s = product::sign_of_product(a, b);
+    let x = whole_quotient(word::significand_of(a), word::significand_of(b));
+    let z = round::zeros_of(x);
+    let r = deliver::deliver(
+        exc,
+        s,
+        ea + 167,
+        eb + z,
+        round::near_of(round::raised(x, z)),
+    );
+    Answer {
+        value: r.value,
+        types: r.types,
+    }
+}
