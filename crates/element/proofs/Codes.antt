@@ -5,7 +5,7 @@ use mathlib.Core.Logic.{_⊎_, inl, inr}
 use mathlib.Core.List.{List, [], _∷_}
 use Prim.Native.Nat.{ℕ, zero, suc}
 use Rattle.opcodes.specs.declared.Work.{Work}
-use Rattle.opcodes.specs.declared.Work.the-variants.{AddLongword, SubtractLongword, MultiplyLongword, CompareLongword, BitSet, ExclusiveOr, BitClear, ShiftRight, ShiftLeft, AddF, SubtractF, MultiplyF, CompareF, Convert, Iota, Merge, LoadLongword, LoadQuadword, StoreLongword, StoreQuadword}
+use Rattle.opcodes.specs.declared.Work.the-variants.{AddLongword, SubtractLongword, MultiplyLongword, CompareLongword, BitSet, ExclusiveOr, BitClear, ShiftRight, ShiftLeft, AddF, SubtractF, MultiplyF, CompareF, Convert, Iota, Merge, LoadLongword, LoadQuadword, StoreLongword, StoreQuadword, DivideF}
 use Rattle.opcodes.specs.WorkNumbers.{workNumber}
 use lib.Dec.{eqb}
 use Rattle.numbers.specs.Choice.{pick}
@@ -39,6 +39,7 @@ coded-number LoadLongword = refl
 coded-number LoadQuadword = refl
 coded-number StoreLongword = refl
 coded-number StoreQuadword = refl
+coded-number DivideF = refl
 
 -- what a match on n leaves to its last arm, where the others have the numbers of ks, the last first
 abbrev pub NoneOf : ℕ → List ℕ → Type 0
@@ -83,34 +84,35 @@ is-total minus exc a b c w v x hw hv hx = ap (floatingOut c) hx ∙ ap₂ (λ (y
 
 -- the numbers of the other works of a first operand's or a source's value, before those of the short ones
 abbrev pub valueNumbers : List ℕ
-valueNumbers = 14 ∷ 12 ∷ 11 ∷ 10 ∷ shortNumbers
+valueNumbers = 14 ∷ 21 ∷ 12 ∷ 11 ∷ 10 ∷ shortNumbers
 
 -- what is none of these and no compare leaves an element as it was
 pub is-idle : (n : ℕ) → NoneOf n valueNumbers → (n ≡ 4 → ⊥) → (n ≡ 13 → ⊥) → (exc : Bool) (field : ℕ) (matches : Bool) (a b c : ℕ)
     → resultOf (shortWork n) exc 0 matches a b c ≡ resultOf (coded n) exc field matches a b c
 unfolding coded shortWork resultOf
 is-idle zero r f g exc field matches a b c = refl
-is-idle (suc zero) r f g exc field matches a b c = absurd (r .0 .0 .0 .0 .0 .0 .0 .0 .0 .0 .0 .0 .1 refl)
-is-idle (suc (suc zero)) r f g exc field matches a b c = absurd (r .0 .0 .0 .0 .0 .0 .0 .0 .0 .0 .0 .1 refl)
-is-idle (suc (suc (suc zero))) r f g exc field matches a b c = absurd (r .0 .0 .0 .0 .0 .0 .0 .0 .0 .0 .1 refl)
+is-idle (suc zero) r f g exc field matches a b c = absurd (r .0 .0 .0 .0 .0 .0 .0 .0 .0 .0 .0 .0 .0 .1 refl)
+is-idle (suc (suc zero)) r f g exc field matches a b c = absurd (r .0 .0 .0 .0 .0 .0 .0 .0 .0 .0 .0 .0 .1 refl)
+is-idle (suc (suc (suc zero))) r f g exc field matches a b c = absurd (r .0 .0 .0 .0 .0 .0 .0 .0 .0 .0 .0 .1 refl)
 is-idle (suc (suc (suc (suc zero)))) r f g exc field matches a b c = absurd (f refl)
-is-idle (suc (suc (suc (suc (suc zero))))) r f g exc field matches a b c = absurd (r .0 .0 .0 .0 .0 .0 .0 .0 .0 .1 refl)
-is-idle (suc (suc (suc (suc (suc (suc zero)))))) r f g exc field matches a b c = absurd (r .0 .0 .0 .0 .0 .0 .0 .0 .1 refl)
-is-idle (suc (suc (suc (suc (suc (suc (suc zero))))))) r f g exc field matches a b c = absurd (r .0 .0 .0 .0 .0 .0 .0 .1 refl)
-is-idle (suc (suc (suc (suc (suc (suc (suc (suc zero)))))))) r f g exc field matches a b c = absurd (r .0 .0 .0 .0 .0 .0 .1 refl)
-is-idle (suc (suc (suc (suc (suc (suc (suc (suc (suc zero))))))))) r f g exc field matches a b c = absurd (r .0 .0 .0 .0 .0 .1 refl)
-is-idle (suc (suc (suc (suc (suc (suc (suc (suc (suc (suc zero)))))))))) r f g exc field matches a b c = absurd (r .0 .0 .0 .1 refl)
-is-idle (suc (suc (suc (suc (suc (suc (suc (suc (suc (suc (suc zero))))))))))) r f g exc field matches a b c = absurd (r .0 .0 .1 refl)
-is-idle (suc (suc (suc (suc (suc (suc (suc (suc (suc (suc (suc (suc zero)))))))))))) r f g exc field matches a b c = absurd (r .0 .1 refl)
+is-idle (suc (suc (suc (suc (suc zero))))) r f g exc field matches a b c = absurd (r .0 .0 .0 .0 .0 .0 .0 .0 .0 .0 .1 refl)
+is-idle (suc (suc (suc (suc (suc (suc zero)))))) r f g exc field matches a b c = absurd (r .0 .0 .0 .0 .0 .0 .0 .0 .0 .1 refl)
+is-idle (suc (suc (suc (suc (suc (suc (suc zero))))))) r f g exc field matches a b c = absurd (r .0 .0 .0 .0 .0 .0 .0 .0 .1 refl)
+is-idle (suc (suc (suc (suc (suc (suc (suc (suc zero)))))))) r f g exc field matches a b c = absurd (r .0 .0 .0 .0 .0 .0 .0 .1 refl)
+is-idle (suc (suc (suc (suc (suc (suc (suc (suc (suc zero))))))))) r f g exc field matches a b c = absurd (r .0 .0 .0 .0 .0 .0 .1 refl)
+is-idle (suc (suc (suc (suc (suc (suc (suc (suc (suc (suc zero)))))))))) r f g exc field matches a b c = absurd (r .0 .0 .0 .0 .1 refl)
+is-idle (suc (suc (suc (suc (suc (suc (suc (suc (suc (suc (suc zero))))))))))) r f g exc field matches a b c = absurd (r .0 .0 .0 .1 refl)
+is-idle (suc (suc (suc (suc (suc (suc (suc (suc (suc (suc (suc (suc zero)))))))))))) r f g exc field matches a b c = absurd (r .0 .0 .1 refl)
 is-idle (suc (suc (suc (suc (suc (suc (suc (suc (suc (suc (suc (suc (suc zero))))))))))))) r f g exc field matches a b c = absurd (g refl)
 is-idle (suc (suc (suc (suc (suc (suc (suc (suc (suc (suc (suc (suc (suc (suc zero)))))))))))))) r f g exc field matches a b c = absurd (r .1 refl)
 is-idle (suc (suc (suc (suc (suc (suc (suc (suc (suc (suc (suc (suc (suc (suc (suc zero))))))))))))))) r f g exc field matches a b c = refl
-is-idle (suc (suc (suc (suc (suc (suc (suc (suc (suc (suc (suc (suc (suc (suc (suc (suc zero)))))))))))))))) r f g exc field matches a b c = absurd (r .0 .0 .0 .0 .1 refl)
+is-idle (suc (suc (suc (suc (suc (suc (suc (suc (suc (suc (suc (suc (suc (suc (suc (suc zero)))))))))))))))) r f g exc field matches a b c = absurd (r .0 .0 .0 .0 .0 .1 refl)
 is-idle (suc (suc (suc (suc (suc (suc (suc (suc (suc (suc (suc (suc (suc (suc (suc (suc (suc zero))))))))))))))))) r f g exc field matches a b c = refl
 is-idle (suc (suc (suc (suc (suc (suc (suc (suc (suc (suc (suc (suc (suc (suc (suc (suc (suc (suc zero)))))))))))))))))) r f g exc field matches a b c = refl
 is-idle (suc (suc (suc (suc (suc (suc (suc (suc (suc (suc (suc (suc (suc (suc (suc (suc (suc (suc (suc zero))))))))))))))))))) r f g exc field matches a b c = refl
 is-idle (suc (suc (suc (suc (suc (suc (suc (suc (suc (suc (suc (suc (suc (suc (suc (suc (suc (suc (suc (suc zero)))))))))))))))))))) r f g exc field matches a b c = refl
-is-idle (suc (suc (suc (suc (suc (suc (suc (suc (suc (suc (suc (suc (suc (suc (suc (suc (suc (suc (suc (suc (suc n))))))))))))))))))))) r f g exc field matches a b c = refl
+is-idle (suc (suc (suc (suc (suc (suc (suc (suc (suc (suc (suc (suc (suc (suc (suc (suc (suc (suc (suc (suc (suc zero))))))))))))))))))))) r f g exc field matches a b c = absurd (r .0 .1 refl)
+is-idle (suc (suc (suc (suc (suc (suc (suc (suc (suc (suc (suc (suc (suc (suc (suc (suc (suc (suc (suc (suc (suc (suc n)))))))))))))))))))))) r f g exc field matches a b c = refl
 
 -- a compare ignores EXC, the mask bit and Vc
 pub compare-ignores : (n : ℕ) (exc : Bool) (relation : ℕ) (matches : Bool) (a b c : ℕ) → resultOf (compareWork n) false relation false a b 0 ≡ resultOf (compareWork n) exc relation matches a b c

@@ -14,10 +14,10 @@ use Rattle.floating.specs.Round.{near, chopped}
 use Rattle.floating.specs.declared.Answer.{Answer}
 use Rattle.floating.specs.declared.Compared.{Compared}
 use Rattle.floating.specs.declared.Outcome.{Outcome}
-use Rattle.floating.specs.declared.Outcome.the-variants.{Word, Overflow, Underflow, Reserved}
-use Rattle.floating.specs.Operations.{answered, sum, difference, product, side, holds, compared, lowBits, isWide, toLongword, roundedLongword, truncatedLongword, fromLongword}
+use Rattle.floating.specs.declared.Outcome.the-variants.{Word, Overflow, Underflow, Reserved, DivisionByZero, ReservedByZero}
+use Rattle.floating.specs.Operations.{answered, sum, difference, product, quotient, side, holds, compared, lowBits, isWide, toLongword, roundedLongword, truncatedLongword, fromLongword}
 use Rattle.opcodes.specs.declared.Work.{Work}
-use Rattle.opcodes.specs.declared.Work.the-variants.{AddLongword, SubtractLongword, MultiplyLongword, CompareLongword, BitSet, ExclusiveOr, BitClear, ShiftRight, ShiftLeft, AddF, SubtractF, MultiplyF, CompareF, Convert, Iota, Merge, LoadLongword, LoadQuadword, StoreLongword, StoreQuadword}
+use Rattle.opcodes.specs.declared.Work.the-variants.{AddLongword, SubtractLongword, MultiplyLongword, CompareLongword, BitSet, ExclusiveOr, BitClear, ShiftRight, ShiftLeft, AddF, SubtractF, MultiplyF, CompareF, Convert, Iota, Merge, LoadLongword, LoadQuadword, StoreLongword, StoreQuadword, DivideF}
 use Rattle.element.specs.Receives.{converted, resultOf}
 
 abbrev answer : ℕ → ℕ → Answer
@@ -36,6 +36,8 @@ of-outcome exc Overflow = refl
 of-outcome true Underflow = refl
 of-outcome false Underflow = refl
 of-outcome exc Reserved = refl
+of-outcome exc DivisionByZero = refl
+of-outcome exc ReservedByZero = refl
 
 of-compare : (f : Format) (relation a b : ℕ) → vaerInRange (compared f relation a b .types) ≡ true
 of-compare f relation a b = go (isReserved f a) (isReserved f b) (holds (relation % 8) (side (minus (valueOf f a) (valueOf f b))))
@@ -91,3 +93,4 @@ types-in-range LoadLongword exc field m a b c = refl
 types-in-range LoadQuadword exc field m a b c = refl
 types-in-range StoreLongword exc field m a b c = refl
 types-in-range StoreQuadword exc field m a b c = refl
+types-in-range DivideF exc field m a b c = of-outcome exc (quotient F (low a) (low b))

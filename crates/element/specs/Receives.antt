@@ -1,4 +1,4 @@
--- Document 01, "What an element receives": the work of one element, over what it reads there. a is Va's element or the scalar, b is Vb's, c is Vc's own.
+-- Document 01, "What an element receives", and document 02, Q-1: the work of one element, over what it reads there. a is Va's element or the scalar, b is Vb's, c is Vc's own.
 use mathlib.Core.Bool.{Bool, _&&_}
 use Prim.Native.Nat.{ℕ}
 use lib.Dec.{eqb}
@@ -8,11 +8,11 @@ use Rattle.numbers.specs.Halves.{low, withLow}
 use Rattle.numbers.specs.Signed.{low32, overflows}
 use Rattle.longword.specs.Longword.{sumOf, differenceOf, productOf, compares, bitSetOf, exclusiveOrOf, bitClearOf, shiftedRight, shiftedLeft}
 use Rattle.floating.specs.Format.{F}
-use Rattle.floating.specs.Operations.{answered, sum, difference, product, compared, roundedLongword, truncatedLongword, fromLongword}
+use Rattle.floating.specs.Operations.{answered, sum, difference, product, quotient, compared, roundedLongword, truncatedLongword, fromLongword}
 use Rattle.floating.specs.declared.Answer.{Answer}
 use Rattle.floating.specs.declared.Compared.{Compared}
 use Rattle.opcodes.specs.declared.Work.{Work}
-use Rattle.opcodes.specs.declared.Work.the-variants.{AddLongword, SubtractLongword, MultiplyLongword, CompareLongword, BitSet, ExclusiveOr, BitClear, ShiftRight, ShiftLeft, AddF, SubtractF, MultiplyF, CompareF, Convert, Iota, Merge, LoadLongword, LoadQuadword, StoreLongword, StoreQuadword}
+use Rattle.opcodes.specs.declared.Work.the-variants.{AddLongword, SubtractLongword, MultiplyLongword, CompareLongword, BitSet, ExclusiveOr, BitClear, ShiftRight, ShiftLeft, AddF, SubtractF, MultiplyF, CompareF, Convert, Iota, Merge, LoadLongword, LoadQuadword, StoreLongword, StoreQuadword, DivideF}
 use Rattle.element.specs.declared.Out.{Out}
 
 abbrev pub out : ℕ → ℕ → Out
@@ -67,3 +67,5 @@ resultOf LoadLongword exc field matches a b c = quiet c
 resultOf LoadQuadword exc field matches a b c = quiet c
 resultOf StoreLongword exc field matches a b c = quiet c
 resultOf StoreQuadword exc field matches a b c = quiet c
+-- document 02, Q-1: Va, or the scalar, divided by Vb
+resultOf DivideF exc field matches a b c = floatingOut c (answered exc (quotient F (low a) (low b)))

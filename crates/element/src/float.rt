@@ -4,7 +4,7 @@ use numbers::halves;
 ghost use mathlib.Core.Path.{_≡_};
 ghost use Rattle.numbers.specs.Halves.{low};
 ghost use Rattle.floating.specs.Format.{F};
-ghost use Rattle.floating.specs.Operations.{answered, product, compared};
+ghost use Rattle.floating.specs.Operations.{answered, product, quotient, compared};
 ghost use Rattle.element.specs.Receives.{floatingOut, comparedOut, converted};
 
 // Bits <31:0>.
@@ -28,6 +28,12 @@ pub fn multiply(exc: bool, a: u64, b: u64, c: u64) -> Out
     ensures { λ r. ⌜ r ≡ floatingOut c (answered exc (product F (low a) (low b))) ⌝ }
 {
     place(c, floating::multiply(word(a), word(b), exc))
+}
+
+pub fn divide(exc: bool, a: u64, b: u64, c: u64) -> Out
+    ensures { λ r. ⌜ r ≡ floatingOut c (answered exc (quotient F (low a) (low b))) ⌝ }
+{
+    place(c, floating::divide(word(a), word(b), exc))
 }
 
 // The mask bit.

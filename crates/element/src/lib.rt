@@ -2,13 +2,13 @@
 use opcodes::Work;
 ghost use mathlib.Core.Path.{_≡_};
 ghost use Rattle.numbers.specs.Choice.{pick};
-ghost use Rattle.opcodes.specs.declared.Work.the-variants.{MultiplyF, Convert};
+ghost use Rattle.opcodes.specs.declared.Work.the-variants.{Convert};
 ghost use Rattle.opcodes.specs.WorkNumbers.{workNumber};
 ghost use mathlib.Core.Bool.{Bool, true, false};
 ghost use Rattle.numbers.specs.Halves.{low};
 ghost use Rattle.floating.specs.Format.{F, isRare};
 ghost use Rattle.element.specs.Receives.{quiet as quietOut, bitOut, resultOf};
-ghost use Rattle.element.specs.Groups.{shortWork, totalWork, compareWork};
+ghost use Rattle.element.specs.Groups.{shortWork, totalWork, productWork, compareWork};
 
 mod float;
 mod integer;
@@ -86,10 +86,13 @@ pub fn common_total(minus: bool, exc: bool, a: u64, b: u64, c: u64) -> Out
     )
 }
 
-// The floating product of one element.
-pub fn product(exc: bool, a: u64, b: u64, c: u64) -> Out
-    ensures { λ r. ⌜ r ≡ resultOf MultiplyF exc 0 false a b c ⌝ }
+// The floating product of one element, or the quotient.
+pub fn product(divide: bool, exc: bool, a: u64, b: u64, c: u64) -> Out
+    ensures { λ r. ⌜ r ≡ resultOf (productWork divide) exc 0 false a b c ⌝ }
 {
+    if divide {
+        return float::divide(exc, a, b, c);
+    }
     float::multiply(exc, a, b, c)
 }
 
@@ -142,5 +145,6 @@ pub fn code(work: Work) -> u8
         Work::LoadQuadword => 18,
         Work::StoreLongword => 19,
         Work::StoreQuadword => 20,
+        Work::DivideF => 21,
     }
 }

@@ -5,7 +5,7 @@ use native.Mathlib.Omega.{arith}
 use lib.Dec.{eqb}
 use Rattle.numbers.proofs.Tests.{true-not-false}
 use Rattle.opcodes.specs.declared.Work.{Work}
-use Rattle.opcodes.specs.declared.Work.the-variants.{AddLongword, SubtractLongword, MultiplyLongword, CompareLongword, BitSet, ExclusiveOr, BitClear, ShiftRight, ShiftLeft, AddF, SubtractF, MultiplyF, CompareF, Convert, Iota, Merge, LoadLongword, LoadQuadword, StoreLongword, StoreQuadword}
+use Rattle.opcodes.specs.declared.Work.the-variants.{AddLongword, SubtractLongword, MultiplyLongword, CompareLongword, BitSet, ExclusiveOr, BitClear, ShiftRight, ShiftLeft, AddF, SubtractF, MultiplyF, CompareF, Convert, Iota, Merge, LoadLongword, LoadQuadword, StoreLongword, StoreQuadword, DivideF}
 use Rattle.opcodes.specs.WorkNumbers.{workNumber}
 use Rattle.element.specs.Groups.{compareWork}
 use Rattle.machine.specs.Kind.{kindOf, isCompare, isMerge, isIota}
@@ -33,6 +33,7 @@ by-merge LoadLongword = refl
 by-merge LoadQuadword = refl
 by-merge StoreLongword = refl
 by-merge StoreQuadword = refl
+by-merge DivideF = refl
 
 pub by-compare : (w : Work) → (eqb (workNumber w) 4 || eqb (workNumber w) 13) ≡ isCompare (kindOf w)
 unfolding kindOf
@@ -56,6 +57,7 @@ by-compare LoadLongword = refl
 by-compare LoadQuadword = refl
 by-compare StoreLongword = refl
 by-compare StoreQuadword = refl
+by-compare DivideF = refl
 
 pub by-iota : (w : Work) → eqb (workNumber w) 15 ≡ isIota (kindOf w)
 unfolding kindOf
@@ -79,6 +81,7 @@ by-iota LoadLongword = refl
 by-iota LoadQuadword = refl
 by-iota StoreLongword = refl
 by-iota StoreQuadword = refl
+by-iota DivideF = refl
 
 -- a compare's number stands for it
 pub is-compare : (w : Work) → isCompare (kindOf w) ≡ true → compareWork (workNumber w) ≡ w
@@ -103,6 +106,7 @@ is-compare LoadLongword e = absurd (true-not-false e)
 is-compare LoadQuadword e = absurd (true-not-false e)
 is-compare StoreLongword e = absurd (true-not-false e)
 is-compare StoreQuadword e = absurd (true-not-false e)
+is-compare DivideF e = absurd (true-not-false e)
 
 -- and is no other work's
 pub not-compare : (w : Work) → isCompare (kindOf w) ≡ false → (workNumber w ≡ 4 → ⊥) × (workNumber w ≡ 13 → ⊥)
@@ -127,3 +131,4 @@ not-compare LoadLongword e = ((λ q. omega arith), λ q. omega arith)
 not-compare LoadQuadword e = ((λ q. omega arith), λ q. omega arith)
 not-compare StoreLongword e = ((λ q. omega arith), λ q. omega arith)
 not-compare StoreQuadword e = ((λ q. omega arith), λ q. omega arith)
+not-compare DivideF e = ((λ q. omega arith), λ q. omega arith)

@@ -1,7 +1,7 @@
 -- What a work writes, and whether it obeys MOE.
 use mathlib.Core.Bool.{Bool, true, false}
 use Rattle.opcodes.specs.declared.Work.{Work}
-use Rattle.opcodes.specs.declared.Work.the-variants.{AddLongword, SubtractLongword, MultiplyLongword, CompareLongword, BitSet, ExclusiveOr, BitClear, ShiftRight, ShiftLeft, AddF, SubtractF, MultiplyF, CompareF, Convert, Iota, Merge, LoadLongword, LoadQuadword, StoreLongword, StoreQuadword}
+use Rattle.opcodes.specs.declared.Work.the-variants.{AddLongword, SubtractLongword, MultiplyLongword, CompareLongword, BitSet, ExclusiveOr, BitClear, ShiftRight, ShiftLeft, AddF, SubtractF, MultiplyF, CompareF, Convert, Iota, Merge, LoadLongword, LoadQuadword, StoreLongword, StoreQuadword, DivideF}
 use Rattle.machine.specs.declared.Kind.{Kind}
 use Rattle.machine.specs.declared.Kind.the-variants as kind
 
@@ -26,6 +26,7 @@ kindOf LoadLongword = kind.Memory
 kindOf LoadQuadword = kind.Memory
 kindOf StoreLongword = kind.Memory
 kindOf StoreQuadword = kind.Memory
+kindOf DivideF = kind.Element
 
 -- merge ignores MOE
 abbrev pub isMerge : Kind → Bool

@@ -12,10 +12,10 @@ use Rattle.numbers.specs.Rising.{rising, ofOnes}
 use Rattle.state.specs.State.{placeOf}
 use Rattle.state.specs.Elements.{at}
 use Rattle.opcodes.specs.declared.Instruction.{Instruction}
-use Rattle.opcodes.specs.declared.Work.the-variants.{MultiplyF, Convert}
+use Rattle.opcodes.specs.declared.Work.the-variants.{Convert}
 use Rattle.element.specs.declared.Out.{Out}
 use Rattle.element.specs.Receives.{resultOf}
-use Rattle.element.specs.Groups.{coded, shortWork, totalWork, compareWork}
+use Rattle.element.specs.Groups.{coded, shortWork, totalWork, productWork, compareWork}
 use Rattle.machine.specs.declared.Effect.{Effect}
 use Rattle.machine.specs.declared.Progress.{Progress}
 use Rattle.machine.specs.Kind.{kindOf, isIota}
@@ -64,8 +64,8 @@ shortAt code exc mask i a b c = resultOf (shortWork code) exc 0 (bit mask i) a b
 abbrev pub totalAt : Bool → Bool → ℕ → ℕ → ℕ → ℕ → Out
 totalAt minus exc i a b c = resultOf (totalWork minus) exc 0 false a b c
 
-abbrev pub productAt : Bool → ℕ → ℕ → ℕ → ℕ → Out
-productAt exc i a b c = resultOf MultiplyF exc 0 false a b c
+abbrev pub productAt : Bool → Bool → ℕ → ℕ → ℕ → ℕ → Out
+productAt divide exc i a b c = resultOf (productWork divide) exc 0 false a b c
 
 abbrev pub convertAt : Bool → ℕ → ℕ → ℕ → ℕ → ℕ → Out
 convertAt exc conversion i a b c = resultOf Convert exc conversion false 0 b c

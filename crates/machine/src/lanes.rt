@@ -1,4 +1,4 @@
-// Works that write elements, for the elements of a set: short works, floating sums and differences, products, and conversions. The number of a
+// Works that write elements, for the elements of a set: short works, floating sums and differences, products and quotients, and conversions. The number of a
 // short work is a constant where its loop is called: the compiler makes a loop for each. For all elements below a length the short works have loops of
 // their own. Floating sums and products have a loop with a scalar and one with a register, so that the form is chosen once for an instruction; the loops of
 // short works name the choice at each element, and the compiler makes two of each.
@@ -216,10 +216,11 @@ fn totals(
     register_totals(elements, minus, exc, va, vb, vc, which)
 }
 
-// The floating product of one element.
+// The floating product of one element, or the quotient.
 fn product(
     elements: &mut [u64; 1024],
     types: u64,
+    divide: bool,
     exc: bool,
     a: u64,
     vb: Register,
@@ -227,16 +228,23 @@ fn product(
     i: Element,
 ) -> u64
     requires { ⌜ (vb .0 < 16) × (vc .0 < 16) × (i .0 < 64) ⌝ }
-    ensures { λ r. ⌜ lanes (now (elements .exit)) r ≡ laneWorked (productAt exc) a (vb .0) (vc .0) (i .0) (lanes (now (elements .entry)) types) ⌝ }
+    ensures { λ r. ⌜ lanes (now (elements .exit)) r ≡ laneWorked (productAt divide exc) a (vb .0) (vc .0) (i .0) (lanes (now (elements .entry)) types) ⌝ }
 {
     let b = operand::element_of(&*elements, vb, i);
     let c = operand::element_of(&*elements, vc, i);
-    land(elements, types, element::product(exc, a, b, c), vc, i)
+    land(
+        elements,
+        types,
+        element::product(divide, exc, a, b, c),
+        vc,
+        i,
+    )
 }
 
-// The products of a scalar and the elements of a set.
+// The products of a scalar and the elements of a set, or its quotients by them.
 fn scalar_products(
     elements: &mut [u64; 1024],
+    divide: bool,
     exc: bool,
     x: u64,
     vb: Register,
@@ -244,13 +252,13 @@ fn scalar_products(
     which: u64,
 ) -> u64
     requires { ⌜ (vb .0 < 16) × (vc .0 < 16) ⌝ }
-    ensures { λ r. ⌜ lanes (now (elements .exit)) r ≡ rising (ofOnes (laneWorked (productAt exc) x (vb .0) (vc .0)) which) 64 (lanes (now (elements .entry)) 0) ⌝ }
+    ensures { λ r. ⌜ lanes (now (elements .exit)) r ≡ rising (ofOnes (laneWorked (productAt divide exc) x (vb .0) (vc .0)) which) 64 (lanes (now (elements .entry)) 0) ⌝ }
 {
     let mut types: u64 = 0;
     let mut left = which;
     while left != 0 {
         let i = Element(bits::lowest(left));
-        types = product(&mut *elements, types, exc, x, vb, vc, i);
+        types = product(&mut *elements, types, divide, exc, x, vb, vc, i);
         left = bits::without_lowest(left);
     }
     types
@@ -259,6 +267,7 @@ fn scalar_products(
 // The same with va's elements for the scalar.
 fn register_products(
     elements: &mut [u64; 1024],
+    divide: bool,
     exc: bool,
     va: Register,
     vb: Register,
@@ -266,22 +275,23 @@ fn register_products(
     which: u64,
 ) -> u64
     requires { ⌜ (va .0 < 16) × (vb .0 < 16) × (vc .0 < 16) ⌝ }
-    ensures { λ r. ⌜ lanes (now (elements .exit)) r ≡ rising (ofOnes (laneRegister (productAt exc) (va .0) (vb .0) (vc .0)) which) 64 (lanes (now (elements .entry)) 0) ⌝ }
+    ensures { λ r. ⌜ lanes (now (elements .exit)) r ≡ rising (ofOnes (laneRegister (productAt divide exc) (va .0) (vb .0) (vc .0)) which) 64 (lanes (now (elements .entry)) 0) ⌝ }
 {
     let mut types: u64 = 0;
     let mut left = which;
     while left != 0 {
         let i = Element(bits::lowest(left));
         let a = operand::element_of(&*elements, va, i);
-        types = product(&mut *elements, types, exc, a, vb, vc, i);
+        types = product(&mut *elements, types, divide, exc, a, vb, vc, i);
         left = bits::without_lowest(left);
     }
     types
 }
 
-// The products of the elements of a set.
+// The products of the elements of a set, or the quotients.
 fn products(
     elements: &mut [u64; 1024],
+    divide: bool,
     exc: bool,
     scalar: bool,
     x: u64,
@@ -291,12 +301,12 @@ fn products(
     which: u64,
 ) -> u64
     requires { ⌜ (va .0 < 16) × (vb .0 < 16) × (vc .0 < 16) ⌝ }
-    ensures { λ r. ⌜ lanes (now (elements .exit)) r ≡ rising (ofOnes (laneStep (productAt exc) scalar x (va .0) (vb .0) (vc .0)) which) 64 (lanes (now (elements .entry)) 0) ⌝ }
+    ensures { λ r. ⌜ lanes (now (elements .exit)) r ≡ rising (ofOnes (laneStep (productAt divide exc) scalar x (va .0) (vb .0) (vc .0)) which) 64 (lanes (now (elements .entry)) 0) ⌝ }
 {
     if scalar {
-        return scalar_products(elements, exc, x, vb, vc, which);
+        return scalar_products(elements, divide, exc, x, vb, vc, which);
     }
-    register_products(elements, exc, va, vb, vc, which)
+    register_products(elements, divide, exc, va, vb, vc, which)
 }
 
 // The conversion of one element.
@@ -401,7 +411,8 @@ pub fn some(
         16 => chosen(elements, 16, exc, mask, scalar, x, va, vb, vc, which),
         10 => totals(elements, false, exc, scalar, x, va, vb, vc, which),
         11 => totals(elements, true, exc, scalar, x, va, vb, vc, which),
-        12 => products(elements, exc, scalar, x, va, vb, vc, which),
+        12 => products(elements, false, exc, scalar, x, va, vb, vc, which),
+        21 => products(elements, true, exc, scalar, x, va, vb, vc, which),
         // No register instruction has another number.
         _ => chosen(elements, code, exc, mask, scalar, x, va, vb, vc, which),
     }

@@ -4,7 +4,7 @@ use mathlib.Core.Bool.{Bool, true, false}
 use Prim.Native.Nat.{ℕ}
 use Rattle.numbers.specs.Choice.{pick}
 use Rattle.opcodes.specs.declared.Work.{Work}
-use Rattle.opcodes.specs.declared.Work.the-variants.{AddLongword, SubtractLongword, MultiplyLongword, CompareLongword, BitSet, ExclusiveOr, BitClear, ShiftRight, ShiftLeft, AddF, SubtractF, MultiplyF, CompareF, Convert, Iota, Merge, LoadLongword, LoadQuadword, StoreLongword, StoreQuadword}
+use Rattle.opcodes.specs.declared.Work.the-variants.{AddLongword, SubtractLongword, MultiplyLongword, CompareLongword, BitSet, ExclusiveOr, BitClear, ShiftRight, ShiftLeft, AddF, SubtractF, MultiplyF, CompareF, Convert, Iota, Merge, LoadLongword, LoadQuadword, StoreLongword, StoreQuadword, DivideF}
 
 -- stores and scatters
 abbrev pub isStore : Work → Bool
@@ -28,6 +28,7 @@ isStore LoadLongword = false
 isStore LoadQuadword = false
 isStore StoreLongword = true
 isStore StoreQuadword = true
+isStore DivideF = false
 
 abbrev pub isQuadword : Work → Bool
 isQuadword AddLongword = false
@@ -50,6 +51,7 @@ isQuadword LoadLongword = false
 isQuadword LoadQuadword = true
 isQuadword StoreLongword = false
 isQuadword StoreQuadword = true
+isQuadword DivideF = false
 
 -- how many bytes an element moves: a quadword eight, a longword four
 abbrev pub sizeOf : Bool → ℕ

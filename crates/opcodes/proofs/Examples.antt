@@ -2,7 +2,7 @@
 use mathlib.Core.Path.{_≡_, refl}
 use mathlib.Core.Bool.{true, false}
 use Rattle.state.specs.Answer.{answer}
-use Rattle.opcodes.specs.declared.Work.the-variants.{AddLongword, Convert, Iota}
+use Rattle.opcodes.specs.declared.Work.the-variants.{AddLongword, Convert, Iota, DivideF}
 use Rattle.opcodes.specs.declared.Opcode.the-variants as opcode
 use Rattle.opcodes.specs.declared.Decoded.the-variants as decoded
 use Rattle.opcodes.specs.Opcodes.{opcodeOf}
@@ -34,6 +34,23 @@ convert = refl
 iota : opcodeOf 0xED ≡ opcode.Accepted Iota true
 unfolding opcodeOf
 iota = refl
+
+-- document 02, Q-1: divide in F has both forms; D and G stay reserved
+divide-f : opcodeOf 0xAC ≡ opcode.Accepted DivideF false
+unfolding opcodeOf
+divide-f = refl
+
+divide-f-scalar : opcodeOf 0xAD ≡ opcode.Accepted DivideF true
+unfolding opcodeOf
+divide-f-scalar = refl
+
+divide-g : opcodeOf 0xAA ≡ opcode.Reserved
+unfolding opcodeOf
+divide-g = refl
+
+divide-d : opcodeOf 0xAE ≡ opcode.Reserved
+unfolding opcodeOf
+divide-d = refl
 
 -- the chapter's MFVP, VSYNC and MTVP are reserved
 mfvp : opcodeOf 0x31 ≡ opcode.Reserved

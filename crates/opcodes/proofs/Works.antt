@@ -12,7 +12,7 @@ use types.Run.{OneOf, miss}
 use mir.Val.{hasKey}
 use denote.Enum.Declared.{tagOf}
 use Rattle.opcodes.specs.declared.Work.{Work}
-use Rattle.opcodes.specs.declared.Work.the-variants.{AddLongword, SubtractLongword, MultiplyLongword, CompareLongword, BitSet, ExclusiveOr, BitClear, ShiftRight, ShiftLeft, AddF, SubtractF, MultiplyF, CompareF, Convert, Iota, Merge, LoadLongword, LoadQuadword, StoreLongword, StoreQuadword}
+use Rattle.opcodes.specs.declared.Work.the-variants.{AddLongword, SubtractLongword, MultiplyLongword, CompareLongword, BitSet, ExclusiveOr, BitClear, ShiftRight, ShiftLeft, AddF, SubtractF, MultiplyF, CompareF, Convert, Iota, Merge, LoadLongword, LoadQuadword, StoreLongword, StoreQuadword, DivideF}
 use Rattle.opcodes.specs.declared.Opcode.{Opcode}
 use Rattle.opcodes.specs.declared.Opcode.the-variants.{Accepted, Reserved}
 use Rattle.opcodes.specs.WorkNumbers.{workNumber, inForm, numbered}
@@ -46,6 +46,7 @@ numbered-work LoadLongword s = refl
 numbered-work LoadQuadword s = refl
 numbered-work StoreLongword s = refl
 numbered-work StoreQuadword s = refl
+numbered-work DivideF s = refl
 
 -- x is none of the keys 1 to n of a match
 abbrev pub NoKey : ℕ → ℕ → Type 0
@@ -58,9 +59,9 @@ outside zero (suc x) r = inr (zero-lt-suc x)
 outside (suc n) x r = elim (outside n x (r .0)) [ inl e ↦ inl e | inr h ↦ inr (let k = r .1 in omega arith) ]
 
 -- and then it stands for no work
-pub none : (x : ℕ) (s : Bool) → NoKey x 20 → Reserved ≡ numbered x s
+pub none : (x : ℕ) (s : Bool) → NoKey x 21 → Reserved ≡ numbered x s
 unfolding numbered
-none x s r = elim (outside 20 x r) [ inl e ↦ rw e | inr h ↦ sym (List·getD-eq-default (inForm s) Reserved h) ]
+none x s r = elim (outside 21 x r) [ inl e ↦ rw e | inr h ↦ sym (List·getD-eq-default (inForm s) Reserved h) ]
 
 -- every work passes a test that all of the list pass
 abbrev pub passes : (Work → Bool) → List Opcode → Bool

@@ -1,11 +1,11 @@
--- Document 01, "Opcodes": the table of accepted opcodes.
+-- Document 01, "Opcodes": the table of accepted opcodes; and that of division, document 02, Q-1.
 use mathlib.Core.Bool.{Bool, true, false, _&&_, _||_}
 use mathlib.Core.List.{List, [], _∷_}
 use Prim.Native.Nat.{ℕ, _%_}
 use lib.Dec.{leb, eqb}
 use Rattle.numbers.specs.Choice.{pick}
 use Rattle.opcodes.specs.declared.Work.{Work}
-use Rattle.opcodes.specs.declared.Work.the-variants.{AddLongword, SubtractLongword, MultiplyLongword, CompareLongword, BitSet, ExclusiveOr, BitClear, ShiftRight, ShiftLeft, AddF, SubtractF, MultiplyF, CompareF, Convert, Iota, Merge, LoadLongword, LoadQuadword, StoreLongword, StoreQuadword}
+use Rattle.opcodes.specs.declared.Work.the-variants.{AddLongword, SubtractLongword, MultiplyLongword, CompareLongword, BitSet, ExclusiveOr, BitClear, ShiftRight, ShiftLeft, AddF, SubtractF, MultiplyF, CompareF, Convert, Iota, Merge, LoadLongword, LoadQuadword, StoreLongword, StoreQuadword, DivideF}
 use Rattle.opcodes.specs.declared.Opcode.{Opcode}
 use Rattle.opcodes.specs.declared.Opcode.the-variants.{Accepted, Reserved}
 
@@ -45,6 +45,8 @@ table =
     -- store L Q; scatter L Q
     ∷ forms StoreLongword 0x9C 0x9D
     ∷ forms StoreQuadword 0x9E 0x9F
+    -- document 02, Q-1: divide, F
+    ∷ forms DivideF 0xAC 0xAD
     ∷ []
 
 -- the first entry that has the opcode says what it is; one that no entry has is reserved
@@ -93,3 +95,4 @@ isMemory LoadLongword = true
 isMemory LoadQuadword = true
 isMemory StoreLongword = true
 isMemory StoreQuadword = true
+isMemory DivideF = false

@@ -5,7 +5,7 @@ use mathlib.Core.List.{List, [], _∷_}
 use Prim.Native.Nat.{ℕ}
 use lib.ListN.{getD}
 use Rattle.opcodes.specs.declared.Work.{Work}
-use Rattle.opcodes.specs.declared.Work.the-variants.{AddLongword, SubtractLongword, MultiplyLongword, CompareLongword, BitSet, ExclusiveOr, BitClear, ShiftRight, ShiftLeft, AddF, SubtractF, MultiplyF, CompareF, Convert, Iota, Merge, LoadLongword, LoadQuadword, StoreLongword, StoreQuadword}
+use Rattle.opcodes.specs.declared.Work.the-variants.{AddLongword, SubtractLongword, MultiplyLongword, CompareLongword, BitSet, ExclusiveOr, BitClear, ShiftRight, ShiftLeft, AddF, SubtractF, MultiplyF, CompareF, Convert, Iota, Merge, LoadLongword, LoadQuadword, StoreLongword, StoreQuadword, DivideF}
 use Rattle.opcodes.specs.declared.Opcode.{Opcode}
 use Rattle.opcodes.specs.declared.Opcode.the-variants.{Accepted, Reserved}
 
@@ -30,6 +30,7 @@ workNumber LoadLongword = 17
 workNumber LoadQuadword = 18
 workNumber StoreLongword = 19
 workNumber StoreQuadword = 20
+workNumber DivideF = 21
 
 abbrev pub numberOf : Opcode → ℕ
 numberOf Reserved = 0
@@ -59,6 +60,7 @@ inForm s =
     ∷ Accepted LoadQuadword s
     ∷ Accepted StoreLongword s
     ∷ Accepted StoreQuadword s
+    ∷ Accepted DivideF s
     ∷ []
 
 -- what a number stands for; one past the last work stands for none

@@ -26,6 +26,7 @@ pub enum Work {
     LoadQuadword,
     StoreLongword,
     StoreQuadword,
+    DivideF,
 }
 
 // An opcode: its work, and whether it is the scalar form; or none. The scalar form of an operate opcode

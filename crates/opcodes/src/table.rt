@@ -6,7 +6,7 @@ ghost use Rattle.opcodes.specs.Opcodes.{opcodeOf, isMemory as isMemoryOf
 ghost use Rattle.opcodes.specs.Decoding.{LookedUp};
 ghost use Rattle.opcodes.specs.WorkNumbers.{numberOf, numbered as numberedOf};
 
-// Each opcode's work: 0 is reserved, the others are the works in the order of the document's table.
+// Each opcode's work: 0 is reserved, the others are the works in the order of the table of document 01, and then division, of document 02.
 const WORK: [u8; 256] = [
     0, // 00
     0, // 01
@@ -180,8 +180,8 @@ const WORK: [u8; 256] = [
     0, // A9
     0, // AA
     0, // AB
-    0, // AC
-    0, // AD
+    21, // AC
+    21, // AD
     0, // AE
     0, // AF
     0, // B0
@@ -298,6 +298,7 @@ fn numbered(n: u8, scalar: bool) -> Opcode
         18 => Opcode::Accepted(Work::LoadQuadword, scalar),
         19 => Opcode::Accepted(Work::StoreLongword, scalar),
         20 => Opcode::Accepted(Work::StoreQuadword, scalar),
+        21 => Opcode::Accepted(Work::DivideF, scalar),
         _ => Opcode::Reserved,
     }
 }

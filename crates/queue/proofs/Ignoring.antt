@@ -5,7 +5,7 @@ use mathlib.Core.Bool.{Bool, false}
 use Prim.Native.Nat.{ℕ}
 use lib.Dec.{T, eqb→eq}
 use Rattle.opcodes.specs.declared.Work.{Work}
-use Rattle.opcodes.specs.declared.Work.the-variants.{AddLongword, SubtractLongword, MultiplyLongword, CompareLongword, BitSet, ExclusiveOr, BitClear, ShiftRight, ShiftLeft, AddF, SubtractF, MultiplyF, CompareF, Convert, Iota, Merge, LoadLongword, LoadQuadword, StoreLongword, StoreQuadword}
+use Rattle.opcodes.specs.declared.Work.the-variants.{AddLongword, SubtractLongword, MultiplyLongword, CompareLongword, BitSet, ExclusiveOr, BitClear, ShiftRight, ShiftLeft, AddF, SubtractF, MultiplyF, CompareF, Convert, Iota, Merge, LoadLongword, LoadQuadword, StoreLongword, StoreQuadword, DivideF}
 use Rattle.opcodes.specs.declared.Opcode.the-variants.{Accepted}
 use Rattle.opcodes.specs.WorkNumbers.{workNumber, numbered}
 use Rattle.opcodes.proofs.Works.{numbered-work}
@@ -48,6 +48,7 @@ ignores-own LoadLongword t exc field m a b c c′ = absurd t
 ignores-own LoadQuadword t exc field m a b c c′ = absurd t
 ignores-own StoreLongword t exc field m a b c c′ = absurd t
 ignores-own StoreQuadword t exc field m a b c c′ = absurd t
+ignores-own DivideF t exc field m a b c c′ = absurd t
 
 pub ignores-bit : (w : Work) → (T (isMerge (kindOf w)) → ⊥) → (exc : Bool) (field : ℕ) (m m′ : Bool) (a b c : ℕ)
     → resultOf w exc field m a b c ≡ resultOf w exc field m′ a b c
@@ -72,3 +73,4 @@ ignores-bit LoadLongword t exc field m m′ a b c = refl
 ignores-bit LoadQuadword t exc field m m′ a b c = refl
 ignores-bit StoreLongword t exc field m m′ a b c = refl
 ignores-bit StoreQuadword t exc field m m′ a b c = refl
+ignores-bit DivideF t exc field m m′ a b c = refl

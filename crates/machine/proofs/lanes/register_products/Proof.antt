@@ -7,10 +7,10 @@ use Rattle.machine.proofs.lanes.register_products.Statement.{statement}
 use Rattle.machine.proofs.lanes.register_products.Tie as tie
 
 abbrev Inv-loop : tie.InvT-loop
-Inv-loop elements₀ exc va vb vc which types₀ left₀ elements types left = Walk (laneRegister (productAt exc) (va .0) (vb .0) (vc .0)) which 64 (lanes elements₀ 0) left (lanes elements types)
+Inv-loop elements₀ divide exc va vb vc which types₀ left₀ elements types left = Walk (laneRegister (productAt divide exc) (va .0) (vb .0) (vc .0)) which 64 (lanes elements₀ 0) left (lanes elements types)
 
 abbrev μ-loop : tie.MeasureT-loop
-μ-loop elements₀ exc va vb vc which types₀ left₀ elements types left = left
+μ-loop elements₀ divide exc va vb vc which types₀ left₀ elements types left = left
 
 loop-holds : tie.Need-loop-holds Inv-loop μ-loop
 loop-holds c = search (starts-walk, needs)

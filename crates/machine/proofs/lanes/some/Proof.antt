@@ -65,6 +65,9 @@ totals-requires-2 c κs = search needs
 products-requires : tie.Need-products-requires
 products-requires c κs = search needs
 
+products-requires-2 : tie.Need-products-requires-2
+products-requires-2 c κs = search needs
+
 chosen-requires-10 : tie.Need-chosen-requires-10
 chosen-requires-10 c κs = search needs
 
@@ -117,7 +120,11 @@ unfolding resultOf coded
 returns-13 c = rw (← (c .before .before .before .before .before .before .before .code .ensures), c .before .before .match .keys12) (floating-chosen 12 (c .before .before .before .before .before .before .before .before .args .instruction .exc) (c .before .before .before .before .before .before .before .before .args .instruction .va .0) (c .before .before .before .before .before .before .before .before .args .mask) _ _ _ _ _ _ _ _ _ (c .products .ensures) (λ i a b d. refl))
 
 returns-14 : tie.Need-returns-14
-returns-14 c = let n = not-compare _ (c .before .before .before .before .before .before .before .before .pre .3) in
+unfolding resultOf coded
+returns-14 c = rw (← (c .before .before .before .before .before .before .before .code .ensures), c .before .before .match .keys13) (floating-chosen 21 (c .before .before .before .before .before .before .before .before .args .instruction .exc) (c .before .before .before .before .before .before .before .before .args .instruction .va .0) (c .before .before .before .before .before .before .before .before .args .mask) _ _ _ _ _ _ _ _ _ (c .products2 .ensures) (λ i a b d. refl))
+
+returns-15 : tie.Need-returns-15
+returns-15 c = let n = not-compare _ (c .before .before .before .before .before .before .before .before .pre .3) in
     rw (← (c .before .before .before .before .before .before .before .code .ensures)) (idle-chosen _ (c .before .before .before .before .before .before .before .before .args .instruction .exc) (c .before .before .before .before .before .before .before .before .args .instruction .va .0) (c .before .before .before .before .before .before .before .before .args .mask) _ _ _ _ _ _ _ _ (c .chosen10 .ensures) (c .before .before .match .rest, c .before .before .before .before .if1 .left) (rw (c .before .before .before .before .before .before .before .code .ensures) (n .0)) (rw (c .before .before .before .before .before .before .before .code .ensures) (n .1)))
 
 pub some-spec : {M : Type 1} → statement M
@@ -143,6 +150,7 @@ some-spec =
     totals-requires
     totals-requires-2
     products-requires
+    products-requires-2
     chosen-requires-10
     returns-2
     returns-3
@@ -156,4 +164,5 @@ some-spec =
     returns-11
     returns-12
     returns-13
-    returns-14)
+    returns-14
+    returns-15)

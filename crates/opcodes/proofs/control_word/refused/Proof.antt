@@ -10,7 +10,7 @@ use Rattle.opcodes.proofs.control_word.refused.Tie as tie
 
 -- the tags of the works that the last arm is for
 abbrev others : List ℕ
-others = 0 ∷ 1 ∷ 2 ∷ 4 ∷ 5 ∷ 6 ∷ 7 ∷ 8 ∷ 9 ∷ 10 ∷ 11 ∷ 14 ∷ 15 ∷ 18 ∷ 19 ∷ []
+others = 0 ∷ 1 ∷ 2 ∷ 4 ∷ 5 ∷ 6 ∷ 7 ∷ 8 ∷ 9 ∷ 10 ∷ 11 ∷ 14 ∷ 15 ∷ 18 ∷ 19 ∷ 20 ∷ []
 
 enum-told : tie.Need-enum-told
 enum-told c = search needs

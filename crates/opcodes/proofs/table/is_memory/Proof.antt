@@ -16,7 +16,7 @@ returns-2 c = in-arm (18 ∷ 19 ∷ []) true isMemory tt (c .before .args .work)
 returns-3 : tie.Need-returns-3
 returns-3 c =
     in-arm
-    (0 ∷ 1 ∷ 2 ∷ 3 ∷ 4 ∷ 5 ∷ 6 ∷ 7 ∷ 8 ∷ 9 ∷ 10 ∷ 11 ∷ 12 ∷ 13 ∷ 14 ∷ 15 ∷ [])
+    (0 ∷ 1 ∷ 2 ∷ 3 ∷ 4 ∷ 5 ∷ 6 ∷ 7 ∷ 8 ∷ 9 ∷ 10 ∷ 11 ∷ 12 ∷ 13 ∷ 14 ∷ 15 ∷ 20 ∷ [])
     false
     isMemory
     tt

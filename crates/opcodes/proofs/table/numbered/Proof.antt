@@ -86,7 +86,11 @@ unfolding numbered
 returns-20 c = rw (c .match .keys20)
 
 returns-21 : tie.Need-returns-21
-returns-21 c = none (c .before .args .n) (c .before .args .scalar) (c .match .rest)
+unfolding numbered
+returns-21 c = rw (c .match .keys21)
+
+returns-22 : tie.Need-returns-22
+returns-22 c = none (c .before .args .n) (c .before .args .scalar) (c .match .rest)
 
 pub numbered-spec : {M : Type 1} → statement M
 numbered-spec =
@@ -112,4 +116,5 @@ numbered-spec =
     returns-18
     returns-19
     returns-20
-    returns-21)
+    returns-21
+    returns-22)
