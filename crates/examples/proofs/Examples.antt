@@ -1,5 +1,5 @@
 -- Document 01, "Settled examples": the numbered ones, each computed from the definitions that the promises cite: 1 to 11 as calls of one instruction, 12
--- as a queue by a list. Assumes nothing.
+-- as a queue by a list. After them those of the requests of document 02. Assumes nothing.
 use mathlib.Core.Path.{_≡_, refl}
 use mathlib.Core.List.{List, [], _∷_, _++_}
 use Prim.Native.Nat.{ℕ}
@@ -181,3 +181,61 @@ example-12-walked = refl
 pub example-12-refused : orderedRun queue-12 (64 ∷ 0 ∷ 1 ∷ 65 ∷ []) (holding-12 1 2 0 0) ≡ byList.outcome (orderRefused 0) (holding-12 1 2 0 0)
 unfolding orderedRun acceptance positions atPosition verdictOf check checkFrom ok ready each has mustPrecede conflict meet reads writes below stepsOf passing isStep instructionAt inRange opcodeOf refused controlWordOf decodedOf kindOf
 example-12-refused = refl
+
+-- ---- document 02, Q-1: F divide, V1[0] by V2[0]
+-- 1 by 3 is AAAAAA.AAA.. in 24 digits: rounded up
+pub quotient-up : worksOut 0xAC 0x2123 0x4080 0x4140 ≡ gives 0x4080 0x4140 0xAAAB3FAA
+unfolding executedOf accepted instructionOf wholeOf stepsBelow stepOf elementStep operated worked received resultOf written gathered ended notes inRange opcodeOf refused controlWordOf kindOf delivered rounded size
+quotient-up = refl
+
+-- 7 by 11 is A2E8BA.2E.. in 24 digits: rounded down
+pub quotient-down : worksOut 0xAC 0x2123 0x41E0 0x4230 ≡ gives 0x41E0 0x4230 0xE8BA4022
+unfolding executedOf accepted instructionOf wholeOf stepsBelow stepOf elementStep operated worked received resultOf written gathered ended notes inRange opcodeOf refused controlWordOf kindOf delivered rounded size
+quotient-down = refl
+
+-- the scalar, 1, divided by V2[0], 3
+pub quotient-scalar : executedOf (state (holding 0 0x4140) (control 1 0 1)) 0xAD 0x2023 0x4080 0 0 [] 0 ≡ gives 0 0x4140 0xAAAB3FAA
+unfolding executedOf accepted instructionOf wholeOf stepsBelow stepOf elementStep operated worked received resultOf written gathered ended notes inRange opcodeOf refused controlWordOf kindOf delivered rounded size
+quotient-scalar = refl
+
+-- the largest number by the smallest: overflow
+pub quotient-overflow : worksOut 0xAC 0x2123 0xFFFF7FFF 0x0080 ≡ records 0xFFFF7FFF 0x0080 0x8008 0x00080008
+unfolding executedOf accepted instructionOf wholeOf stepsBelow stepOf elementStep operated worked received resultOf written gathered ended notes inRange opcodeOf refused controlWordOf kindOf delivered rounded size
+quotient-overflow = refl
+
+-- the smallest by 2: 0 without EXC, 8001 with
+pub quotient-underflow-quiet : worksOut 0xAC 0x0123 0x0080 0x4100 ≡ gives 0x0080 0x4100 0
+unfolding executedOf accepted instructionOf wholeOf stepsBelow stepOf elementStep operated worked received resultOf written gathered ended notes inRange opcodeOf refused controlWordOf kindOf delivered rounded size
+quotient-underflow-quiet = refl
+
+pub quotient-underflow : worksOut 0xAC 0x2123 0x0080 0x4100 ≡ records 0x0080 0x4100 0x8001 0x00080001
+unfolding executedOf accepted instructionOf wholeOf stepsBelow stepOf elementStep operated worked received resultOf written gathered ended notes inRange opcodeOf refused controlWordOf kindOf delivered rounded size
+quotient-underflow = refl
+
+-- division by zero: 8002 and bit 1, without EXC too; so is zero by zero, and a zero with a fraction is zero
+pub quotient-by-zero : worksOut 0xAC 0x0123 0x4080 0 ≡ records 0x4080 0 0x8002 0x00080002
+unfolding executedOf accepted instructionOf wholeOf stepsBelow stepOf elementStep operated worked received resultOf written gathered ended notes inRange opcodeOf refused controlWordOf kindOf delivered rounded size
+quotient-by-zero = refl
+
+pub quotient-zero-by-zero : worksOut 0xAC 0x2123 0xFFFF007F 0xFFFF007F ≡ records 0xFFFF007F 0xFFFF007F 0x8002 0x00080002
+unfolding executedOf accepted instructionOf wholeOf stepsBelow stepOf elementStep operated worked received resultOf written gathered ended notes inRange opcodeOf refused controlWordOf kindOf delivered rounded size
+quotient-zero-by-zero = refl
+
+-- a reserved operand by zero: 8006, and bits 1 and 2
+pub quotient-reserved-by-zero : worksOut 0xAC 0x2123 0x8000 0 ≡ records 0x8000 0 0x8006 0x00080006
+unfolding executedOf accepted instructionOf wholeOf stepsBelow stepOf elementStep operated worked received resultOf written gathered ended notes inRange opcodeOf refused controlWordOf kindOf delivered rounded size
+quotient-reserved-by-zero = refl
+
+-- any other reserved operand: 8004
+pub quotient-reserved-dividend : worksOut 0xAC 0x2123 0x8000 0x4080 ≡ records 0x8000 0x4080 0x8004 0x00080004
+unfolding executedOf accepted instructionOf wholeOf stepsBelow stepOf elementStep operated worked received resultOf written gathered ended notes inRange opcodeOf refused controlWordOf kindOf delivered rounded size
+quotient-reserved-dividend = refl
+
+pub quotient-reserved-divisor : worksOut 0xAC 0x2123 0 0x8000 ≡ records 0 0x8000 0x8004 0x00080004
+unfolding executedOf accepted instructionOf wholeOf stepsBelow stepOf elementStep operated worked received resultOf written gathered ended notes inRange opcodeOf refused controlWordOf kindOf delivered rounded size
+quotient-reserved-divisor = refl
+
+-- zero by a number: a clean zero, and nothing is recorded
+pub quotient-zero : worksOut 0xAC 0x2123 0xFFFF007F 0x4080 ≡ gives 0xFFFF007F 0x4080 0
+unfolding executedOf accepted instructionOf wholeOf stepsBelow stepOf elementStep operated worked received resultOf written gathered ended notes inRange opcodeOf refused controlWordOf kindOf delivered rounded size
+quotient-zero = refl

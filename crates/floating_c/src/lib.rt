@@ -5,7 +5,7 @@ ghost use Prim.Native.Nat.{_≤_};
 ghost use Rattle.floating.specs.declared.Outcome.the-variants.{Word};
 ghost use Rattle.floating.specs.Format.{F, isReserved};
 ghost use Rattle.floating.specs.Reading.{shownBits};
-ghost use Rattle.floating.specs.Operations.{answered, sum, difference, product, compared, roundedLongword, truncatedLongword, fromLongword};
+ghost use Rattle.floating.specs.Operations.{answered, sum, difference, product, quotient, compared, roundedLongword, truncatedLongword, fromLongword};
 ghost use Rattle.floating_c.specs.Given.{isSet, joined, joinedBit, shorter, shortest, Multiplied};
 
 fn wide(x: u32) -> u64
@@ -51,6 +51,13 @@ pub extern "C" fn kuj_f_multiply(a: u32, b: u32, exc: u32) -> u64
     ensures { λ r. ⌜ r ≡ joined (answered (isSet exc) (product F a b)) ⌝ }
 {
     join(floating::multiply(a, b, exc != 0))
+}
+
+#[no_mangle]
+pub extern "C" fn kuj_f_divide(a: u32, b: u32, exc: u32) -> u64
+    ensures { λ r. ⌜ r ≡ joined (answered (isSet exc) (quotient F a b)) ⌝ }
+{
+    join(floating::divide(a, b, exc != 0))
 }
 
 // Whether a stands in the relation <2:0> to b: the value is the mask bit.
