@@ -2,11 +2,11 @@
 use mathlib.Core.Path.{_≡_, refl, sym, ap, _∙_}
 use mathlib.Core.Bool.{Bool, true, false, cond, _&&_, _||_}
 use Prim.Native.Nat.{ℕ, _+_, _-_, _*_, _/_, _%_, _^_, _≤_, _<_}
-use native.Mathlib.Nat.{zero-mul, mul-comm, mul-assoc, mul-left-comm, mul-pos, le-div-iff-mul-le, div-lt-iff-lt-mul, mod-lt}
+use native.Mathlib.Nat.{zero-mul, mul-one, mul-comm, mul-assoc, mul-left-comm, mul-pos, le-trans, le-of-eq, lt-of-le-of-lt, le-div-iff-mul-le, div-lt-iff-lt-mul, mod-lt}
 use native.Mathlib.Omega.{arith}
-use lib.Dec.{eqb, lit<}
+use lib.Dec.{eqb, ltb, lit<}
 use lib.Pow.{pow-add, pow-pos}
-use borrow.Author.Tests.{ne-eqb, eqb-true, eqb-false}
+use borrow.Author.Tests.{ne-eqb, eqb-true, eqb-false, ltb-true, ltb-false}
 use Rattle.floating.specs.declared.Outcome.{Outcome}
 use Rattle.floating.specs.declared.Outcome.the-variants.{Word, DivisionByZero, ReservedByZero}
 use Rattle.floating.specs.Format.{Format, F, signOf, exponentOf, significandOf, isZero, isReserved}
@@ -15,7 +15,7 @@ use Rattle.floating.specs.Round.{near}
 use Rattle.floating.specs.Delivered.{delivered}
 use Rattle.floating.specs.Operations.{answered, both, quotient}
 use Rattle.floating.specs.Steps.{Normal, settled}
-use Rattle.floating.proofs.Rounding.{normal-64, room, floor-normal, floor-near}
+use Rattle.floating.proofs.Rounding.{floor-normal, floor-near}
 use Rattle.floating.proofs.Delivering.{delivered-zero, delivered-near}
 use Rattle.floating.proofs.Refusing.{passed, number-free}
 use Rattle.floating.proofs.Products.{size-none, size-fields, rare-both}
@@ -56,13 +56,17 @@ module _ (f : Format) (a b : ℕ) where
       joined x y i j l u = simp (pow-add, mul-assoc, mul-comm, mul-left-comm)
 
 -- ---- as the code makes it
--- the whole part of a quotient of two significands of 24 digits, the first moved up 25 places
-pub whole-in : (a b : ℕ) → 8388608 ≤ a → a < 16777216 → 8388608 ≤ b → b < 16777216 → (16777216 ≤ a * 33554432 / b) × (a * 33554432 / b < 67108864)
-whole-in a b alo ahi blo bhi =
-    let B : 0 < b = omega arith in
-    let lo : 16777216 * b ≤ a * 33554432 = omega arith in
-    let hi : a * 33554432 < 67108864 * b = omega arith in
-    (le-div-iff-mul-le B .1 lo, div-lt-iff-lt-mul B .1 hi)
+-- a significand of 24 digits, moved up 24 places, or 25 where it is the smaller, over another: 25 digits
+pub places-in : (a b u : ℕ) → 8388608 ≤ a → a < 16777216 → 8388608 ≤ b → b < 16777216 → u ≡ cond (ltb a b) 25 24 → (u ≤ 25) × (b * 16777216 ≤ a * 2 ^ u) × (a * 2 ^ u < b * 33554432)
+places-in a b u alo ahi blo bhi hu = go (ltb a b) refl hu
+  where
+    go : (t : Bool) → ltb a b ≡ t → u ≡ cond t 25 24 → (u ≤ 25) × (b * 16777216 ≤ a * 2 ^ u) × (a * 2 ^ u < b * 33554432)
+    go true e h = rw h (let l : a < b = ltb-true a b e in (omega arith, omega arith, omega arith))
+    go false e h = rw h (let l : b ≤ a = ltb-false a b e in (omega arith, omega arith, omega arith))
+
+-- their whole part
+pub whole-in : (n b : ℕ) → 0 < b → b * 16777216 ≤ n → n < b * 33554432 → (16777216 ≤ n / b) × (n / b < 33554432)
+whole-in n b B lo hi = (le-div-iff-mul-le B .1 (omega arith), div-lt-iff-lt-mul B .1 (omega arith))
 
 pub rare-by-zero : (a b : ℕ) (p : Bool) (v y : ℕ) → isZero F b ≡ true → p ≡ isReserved F a → v ≡ cond p 0x8006 0x8002 → y ≡ cond p 6 2 → (exc : Bool) → record { value = v; types = y } ≡ answered exc (quotient F a b)
 rare-by-zero a b p v y h hp hv hy exc =
@@ -103,16 +107,15 @@ rare-quotient a b p q v y h hz hp hq hv hy exc = rare-both over a b p q v y zero
         go true g = eqb-true (exponentOf F a) 0 g
         go false g = absurd (some-number b hz (sym hq ∙ second p q e) (h (eqb-false (exponentOf F a) 0 g)))
 
-pub quotient-settled : (a b s z ea eb ma mb x y m : ℕ) → s ≡ (signOf F a + signOf F b) % 2 → ea ≡ exponentOf F a → eb ≡ exponentOf F b → (exponentOf F a ≡ 0 → ⊥) → (exponentOf F b ≡ 0 → ⊥) → ma ≡ significandOf F a → mb ≡ significandOf F b → x ≡ ma * 33554432 / mb → 16777216 ≤ x → 9223372036854775808 ≤ x * 2 ^ z → x * 2 ^ z < 18446744073709551616 → y ≡ x * 2 ^ z → m ≡ near y 1099511627776 → settled F s (ea + 167 - (eb + z)) m ≡ quotient F a b
-quotient-settled a b s z ea eb ma mb x y m hs hea heb na nb hma hmb hx long lo hi hy hm =
-    let B : 0 < mb = omega arith in
-    let N = normal-64 (x * 2 ^ z) lo hi in
-    let r = room 24 (lit< tt) (ma * 33554432) mb x z 40 B hx long N in
-    ap (λ (v : ℕ). settled F s v m) (moved ea eb z r)
-    ∙ quotient-delivered F a b s 25 (40 - z) ea eb ma mb m (lit< tt) B hs hea (λ v. na (sym hea ∙ v)) heb (λ v. nb (sym heb ∙ v)) hma hmb (floor-normal 24 (lit< tt) (ma * 33554432) mb x z 40 B hx long N)
-    (hm ∙ ap (λ (v : ℕ). near v 1099511627776) hy ∙ floor-near 24 (lit< tt) (ma * 33554432) mb x z 40 B hx long N)
+pub quotient-settled : (a b s u ea eb ma mb x m : ℕ) → s ≡ (signOf F a + signOf F b) % 2 → ea ≡ exponentOf F a → eb ≡ exponentOf F b → (exponentOf F a ≡ 0 → ⊥) → (exponentOf F b ≡ 0 → ⊥) → ma ≡ significandOf F a → mb ≡ significandOf F b → 0 < mb → x ≡ ma * 2 ^ u / mb → 16777216 ≤ x → x < 33554432 → m ≡ near x 2 → settled F s (ea + 153 - (eb + u)) m ≡ quotient F a b
+quotient-settled a b s u ea eb ma mb x m hs hea heb na nb hma hmb B hx lo hi hm =
+    let same : x ≡ x * 2 ^ 0 = sym (mul-one x) in
+    let N : Normal 24 (x * 2 ^ 0) 1 1 = record { low = le-trans lo (le-of-eq same); high = lt-of-le-of-lt (le-of-eq (sym same)) hi } in
+    ap (λ (v : ℕ). settled F s v m) (moved ea eb u)
+    ∙ quotient-delivered F a b s u 1 ea eb ma mb m (lit< tt) B hs hea (λ v. na (sym hea ∙ v)) heb (λ v. nb (sym heb ∙ v)) hma hmb (floor-normal 24 (lit< tt) (ma * 2 ^ u) mb x 0 1 B hx lo N)
+    (hm ∙ ap (λ (v : ℕ). near v 2) same ∙ floor-near 24 (lit< tt) (ma * 2 ^ u) mb x 0 1 B hx lo N)
     ∙ passed (isReserved F a) (isReserved F b) false false (delivered F (over (valueOf F a) (valueOf F b))) (number-free F a na) (number-free F b nb) refl
     ∙ by-number F a b (simp (ne-eqb (exponentOf F b) 0 nb))
   where
-    moved : (e d z : ℕ) → z < 40 → e + 167 - (d + z) ≡ 40 - z + (e + 152) - (d + 25)
-    moved e d z h = omega arith
+    moved : (e d u : ℕ) → e + 153 - (d + u) ≡ 1 + (e + 152) - (d + u)
+    moved e d u = omega arith

@@ -6,17 +6,34 @@ use crate::round;
 use crate::word;
 ghost use mathlib.Core.Path.{_≡_};
 ghost use mathlib.Core.Bool.{Bool, true};
-ghost use Prim.Native.Nat.{_*_, _/_, _<_, _≤_};
+ghost use Prim.Native.Nat.{_*_, _/_, _^_, _<_, _≤_};
 ghost use Rattle.floating.specs.Format.{F, isRare};
+ghost use Rattle.floating.specs.Round.{near};
 ghost use Rattle.floating.specs.Operations.{answered, quotient};
 
-// The whole part of the quotient of two significands, the dividend moved up 25 places: 25 digits at least, one more than are kept. No digit past these makes or
-// unmakes a half, so it decides the rounding.
-fn whole_quotient(a: u64, b: u64) -> u64
+// How many places a dividend is moved up for the whole part of the quotient to have 25 digits.
+fn places_up(a: u64, b: u64) -> u32
     requires { ⌜ (8388608 ≤ a) × (a < 16777216) × (8388608 ≤ b) × (b < 16777216) ⌝ }
-    ensures { λ r. ⌜ (r ≡ a * 33554432 / b) × (16777216 ≤ r) × (r < 67108864) ⌝ }
+    ensures { λ r. ⌜ (r ≤ 25) × (b * 16777216 ≤ a * 2 ^ r) × (a * 2 ^ r < b * 33554432) ⌝ }
 {
-    a * 33554432 / b
+    word::chosen(a < b, 25, 24)
+}
+
+// The whole part of the quotient of two significands, the dividend moved up: 25 digits, one more than are kept. No digit past these makes or unmakes a half, so
+// it decides the rounding.
+fn whole_quotient(a: u64, b: u64, up: u32) -> u64
+    requires { ⌜ (0 < b) × (b < 16777216) × (up ≤ 25) × (b * 16777216 ≤ a * 2 ^ up) × (a * 2 ^ up < b * 33554432) ⌝ }
+    ensures { λ r. ⌜ (r ≡ a * 2 ^ up / b) × (16777216 ≤ r) × (r < 33554432) ⌝ }
+{
+    round::raised(a, up) / b
+}
+
+// 25 digits to 24, a half up: 2 ^ 24 at most.
+fn nearest(x: u64) -> u32
+    requires { ⌜ (16777216 ≤ x) × (x < 33554432) ⌝ }
+    ensures { λ r. ⌜ (r ≡ near x 2) × (8388608 ≤ r) × (r ≤ 16777216) ⌝ }
+{
+    ((x + 1) / 2) as u32
 }
 
 // One of the two is zero or reserved.
@@ -51,15 +68,11 @@ pub fn of_words(exc: bool, a: u32, b: u32) -> Answer
         };
     }
     let s = product::sign_of_product(a, b);
-    let x = whole_quotient(word::significand_of(a), word::significand_of(b));
-    let z = round::zeros_of(x);
-    let r = deliver::deliver(
-        exc,
-        s,
-        ea + 167,
-        eb + z,
-        round::near_of(round::raised(x, z)),
-    );
+    let ma = word::significand_of(a);
+    let mb = word::significand_of(b);
+    let up = places_up(ma, mb);
+    let x = whole_quotient(ma, mb, up);
+    let r = deliver::deliver(exc, s, ea + 153, eb + up, nearest(x));
     Answer {
         value: r.value,
         types: r.types,

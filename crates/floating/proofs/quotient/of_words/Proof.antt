@@ -31,11 +31,11 @@ significand-of-requires c κs = search needs
 significand-of-requires-2 : tie.Need-significand-of-requires-2
 significand-of-requires-2 c κs = search needs
 
+places-up-requires : tie.Need-places-up-requires
+places-up-requires c κs = search needs
+
 whole-quotient-requires : tie.Need-whole-quotient-requires
 whole-quotient-requires c κs = search needs
-
-zeros-of-requires : tie.Need-zeros-of-requires
-zeros-of-requires c κs = search needs
 
 add-deliver : tie.Need-add-deliver
 add-deliver c = search needs
@@ -43,27 +43,26 @@ add-deliver c = search needs
 add-deliver-2 : tie.Need-add-deliver-2
 add-deliver-2 c = search needs
 
-raised-requires : tie.Need-raised-requires
-raised-requires c κs = search needs
-
-near-of-requires : tie.Need-near-of-requires
-near-of-requires c κs = search needs
+nearest-requires : tie.Need-nearest-requires
+nearest-requires c κs = search needs
 
 deliver-requires : tie.Need-deliver-requires
 deliver-requires c κs = search needs
 
 returns-2 : tie.Need-returns-2
 returns-2 c =
-    let m = c .before .near-of in
-    let y = c .before .before .raised in
-    let z = c .before .before .before .zeros-of in
-    let p = c .before .before .before .before in
-    let d = p .before .before .before .before in
+    let p = c .before .before in
+    let q = p .whole-quotient .ensures in
+    let d = p .before .before .before .before .before in
     let a = d .before .before .before .args in
-    let n = none-zero F (a .a) (a .b) (sym (rare-tested F (a .a) (a .b) _ _ (d .before .before .exponent-of .ensures) (d .before .exponent-of2 .ensures)) ∙ d .if1 .left) in
+    let ea = d .before .before .exponent-of .ensures in
+    let eb = d .before .exponent-of2 .ensures in
+    let n = none-zero F (a .a) (a .b) (sym (rare-tested F (a .a) (a .b) _ _ ea eb) ∙ d .if1 .left) in
+    let ma = p .before .before .before .significand-of .ensures in
+    let mb = p .before .before .significand-of2 .ensures in
+    let s = p .before .before .before .before .sign-of-product .ensures .0 in
     c .deliver .ensures
-    ∙ ap (answered (a .exc))
-    (quotient-settled (a .a) (a .b) _ _ _ _ _ _ _ _ _ (p .before .before .before .sign-of-product .ensures .0) (d .before .before .exponent-of .ensures) (d .before .exponent-of2 .ensures) (n .0) (n .1) (p .before .before .significand-of .ensures) (p .before .significand-of2 .ensures) (p .whole-quotient .ensures .0) (p .whole-quotient .ensures .1) (z .ensures .1) (z .ensures .2) (y .ensures) (m .ensures .0))
+    ∙ ap (answered (a .exc)) (quotient-settled (a .a) (a .b) _ _ _ _ _ _ _ _ s ea eb (n .0) (n .1) ma mb (search needs) (q .0) (q .1) (q .2) (c .before .nearest .ensures .0))
 
 pub of-words-spec : {M : Type 1} → statement M
 of-words-spec =
@@ -76,11 +75,10 @@ of-words-spec =
     sign-of-product-requires
     significand-of-requires
     significand-of-requires-2
+    places-up-requires
     whole-quotient-requires
-    zeros-of-requires
     add-deliver
     add-deliver-2
-    raised-requires
-    near-of-requires
+    nearest-requires
     deliver-requires
     returns-2)
