@@ -10,7 +10,7 @@
 
 use independent::generate::*;
 use independent::machine::*;
-use independent::queue::{accept, run, run_order, Queue};
+use independent::queue::{accept, first_bad_entry, run, run_order, steps, Queue};
 use independent::random::Random;
 use independent::saved::{load, reading, save, Reading};
 use independent::vectors::{check, directory, instruction_of, Arithmetic, Result32, F_TABLES, L_TABLES};
@@ -261,11 +261,12 @@ const QUOTIENT_CODES: [(u32, &str); 5] = [
     (0x8008, "instructions done that wrote 8008"),
 ];
 
-const DIVISIONS_IN_QUEUES: [&str; 4] = [
+const DIVISIONS_IN_QUEUES: [&str; 5] = [
     "queues done with a division",
     "lists done with a division",
     "lists done with a division that recorded a zero divisor",
     "lists refused at a division's step",
+    "lists refused for the Va of a division alone",
 ];
 
 /// The positions of a queue's divisions.
@@ -406,22 +407,29 @@ fn compare_run_order(random: &mut Random, cases: u64, report: &mut Report) {
     }
 }
 
-/// Counts a list by what becomes of its divisions. A list refused at one of their steps is refused at a
-/// step that comes too early, or at a repeat of it.
+/// Counts an accepted queue's list by what becomes of its divisions.
 fn count_divisions(before: &State, queue: &Queue, order: &[u64], result: &Result<State, Refusal>, report: &mut Report) {
     let positions = divisions_of(queue);
+    if positions.is_empty() || before.vlr == 0 {
+        return;
+    }
     let mut count = |kind: &'static str, came: bool| *report.divisions.entry(kind).or_default() += u64::from(came);
     match result {
         Ok(after) => {
-            let done = before.vlr > 0 && !positions.is_empty();
-            count("lists done with a division", done);
+            count("lists done with a division", true);
             let recorded = before.vaer & 2 == 0 && after.vaer & 2 != 0;
-            count("lists done with a division that recorded a zero divisor", done && recorded);
+            count("lists done with a division that recorded a zero divisor", recorded);
         }
         Err(refusal) => {
+            // A step that comes too early, or a repeat of it.
             let entry = order.get(refusal.beside as usize).copied().unwrap_or(u64::MAX);
             let step = positions.iter().any(|&position| entry / 64 == position as u64) && entry % 64 < before.vlr;
-            count("lists refused at a division's step", refusal.number == ORDER_NOT_PERMITTED && step);
+            count("lists refused at a division's step", step);
+            // As if no division read Va: the list would be permitted, or refused later.
+            let mut instructions = accept(before, queue).expect("an accepted queue");
+            positions.iter().for_each(|&position| instructions[position].scalar_form = true);
+            let otherwise = first_bad_entry(&steps(&instructions, before.vlr as usize), order);
+            count("lists refused for the Va of a division alone", otherwise != Some(refusal.beside as usize));
         }
     }
 }

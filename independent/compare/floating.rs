@@ -125,7 +125,10 @@ fn compare_operation(random: &mut Random, table: &str, pairs: u64, report: &mut 
         println!("{table}: divide by zero {}, reserved operand over zero {}", kinds[2], kinds[6]);
         // Every sort of result of Q-1 has to come up.
         for types in [0, 1, 2, 4, 6, 8] {
-            report.result(kinds[types] > 0, || format!("{table}: no result of types {types} among {pairs} pairs"));
+            if kinds[types] == 0 {
+                println!("{table} never came to types {types}");
+                report.differences += 1;
+            }
         }
     }
 }

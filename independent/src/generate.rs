@@ -456,10 +456,12 @@ pub fn queue(random: &mut Random) -> Vec<Instruction> {
         1 => 16,
         _ => random.between(2, 8),
     };
-    // At times a queue of little but IOTAs, compares and merges: bound by VMR and VCR alone.
-    let favoured: &[u8] = match random.below(3) {
+    // At times a queue of little but IOTAs, compares and merges: bound by VMR and VCR alone. At times one of
+    // little but divisions and what writes their operands: bound by Va too.
+    let favoured: &[u8] = match random.below(4) {
         0 => &[0xED, 0xC1, 0xEF],
         1 => &[0xED, 0xED, 0x81],
+        2 => &[0xAC, 0xAC, 0xAD, 0x85],
         _ => &[0xC0, 0xC1, 0xC4, 0xED, 0xEE, 0xEF, 0x81, 0xA4, 0xAC, 0xAD],
     };
     let often = random.pick(&[2, 3, 6]);
