@@ -125,7 +125,6 @@ fn runner_inputs() -> Vec<(&'static str, Vec<u8>)> {
     // Each sort of quotient: exact, rounded up and down, overflow, underflow, by zero and by a dirty zero, of
     // a reserved operand and by one, a zero over a number.
     let mut quotients = State { vlr: 16, vmr: 0x5555, ..State::enabled() };
-    let one_over = 0x4080;
     let pairs: [(u64, u64); 16] = [
         (0x41C0, 0x4140),
         (0x4080, 0x4140),
@@ -152,7 +151,7 @@ fn runner_inputs() -> Vec<(&'static str, Vec<u8>)> {
     let divisions = [
         one(0xAC, 0x2123, 0),
         one(0xAC, 0x0124, 0),
-        one(0xAD, 0x2025, one_over),
+        one(0xAD, 0x2025, 0x4080),
         one(0xAC, 0xE316, 0),
         one(0xAD, 0x8020, 0),
     ];
