@@ -73,7 +73,7 @@ static uint64_t longword(void)
     return random_bits() << 32 | l;
 }
 
-/* F_floating sizes from 2^-8 to 2^8: no sum or product leaves the range. */
+/* F_floating sizes from 2^-8 to 2^8: no sum, product or quotient leaves the range, and no divisor is zero. */
 static uint64_t ordinary(void)
 {
     uint64_t bits = random_bits();
@@ -412,6 +412,8 @@ static void floating(void)
     instructions("subtract, scalar", ordinary, 0x8D, EXC, VECTOR_SOURCES, 0);
     instructions("multiply", ordinary, 0xA4, EXC, VECTOR_SOURCES, 0);
     instructions("multiply, masked", ordinary, 0xA4, MOE | MTF | EXC, VECTOR_SOURCES, 0);
+    instructions("divide", ordinary, 0xAC, EXC, VECTOR_SOURCES, 0);
+    instructions("divide, masked", ordinary, 0xAC, MOE | MTF | EXC, VECTOR_SOURCES, 0);
     put_back = true;
     instructions("compare", ordinary, 0xC4, 0, RELATION, 0);
     instructions("compare, scalar", ordinary, 0xC5, 0, RELATION, 0);
@@ -423,6 +425,7 @@ static void floating(void)
     put_back = true;
     instructions("add, any bits", any_floating, 0x84, EXC, VECTOR_SOURCES, 0);
     instructions("multiply, any bits", any_floating, 0xA4, EXC, VECTOR_SOURCES, 0);
+    instructions("divide, any bits", any_floating, 0xAC, EXC, VECTOR_SOURCES, 0);
     put_back = false;
     end("element");
 }

@@ -1,7 +1,8 @@
 /*
- * The calls of include/kujawian.h in plain C, by document 01, as one would write them for speed: the
- * switch over the operations outside, the loop over the elements inside. Nothing here is proved. It is
- * what the proved library is timed against, and tests/plain.sh holds it to the independent program.
+ * The calls of include/kujawian.h in plain C, by document 01 and document 02's Q-1, as one would write
+ * them for speed: the switch over the operations outside, the loop over the elements inside. Nothing here
+ * is proved. It is what the proved library is timed against, and tests/plain.sh holds it to the
+ * independent program.
  *
  * Its calls are named plain_*; compiled with -DSTAND_IN they have the library's own names.
  */
@@ -23,7 +24,9 @@ enum { VEN = 0x01, AEX = 0x80 };
 #define VAER_BITS 0xFFFF002Fu
 
 /* VAER's types; those of floating point are also the code of the reserved operand written. */
-enum { UNDERFLOW = 0x01, RESERVED_OPERAND = 0x04, OVERFLOW = 0x08, INTEGER_OVERFLOW = 0x20 };
+enum {
+    UNDERFLOW = 0x01, DIVIDE_BY_ZERO = 0x02, RESERVED_OPERAND = 0x04, OVERFLOW = 0x08, INTEGER_OVERFLOW = 0x20
+};
 enum { EXCEPTION = 0x8000 };
 
 /* ---- Numbers ---- */
@@ -118,6 +121,31 @@ INLINE uint32_t f_multiply(uint32_t a, uint32_t b, bool exc, uint32_t *types)
     return f_pack(f_sign(a ^ b), (int)(ea + eb - shorter) - 128, product << (16 + shorter), exc, types);
 }
 
+/* a / b where either is no number: a zero divisor goes first, a reserved dividend beside it or not. */
+INLINE uint32_t f_quotient_of_none(uint32_t a, uint32_t b, uint32_t *types)
+{
+    uint32_t recorded = 0;
+    if (f_exponent(b) == 0 && !f_sign(b))
+        recorded = DIVIDE_BY_ZERO | (f_reserved(a) ? RESERVED_OPERAND : 0);
+    else if (f_reserved(a) || f_reserved(b))
+        recorded = RESERVED_OPERAND;
+    *types |= recorded;
+    return recorded ? EXCEPTION | recorded : 0;
+}
+
+INLINE uint32_t f_divide(uint32_t a, uint32_t b, bool exc, uint32_t *types)
+{
+    a = turned(a);
+    b = turned(b);
+    const uint32_t ea = f_exponent(a), eb = f_exponent(b);
+    if (__builtin_expect(ea == 0 || eb == 0, 0))
+        return f_quotient_of_none(a, b, types);
+    /* 25 or 26 bits: 24 and the one that rounds; only the floor of the exact size matters to rounding. */
+    const uint64_t quotient = (f_significand(a) << 25) / f_significand(b);
+    const unsigned shorter = !(quotient >> 25);
+    return f_pack(f_sign(a ^ b), (int)(ea - eb - shorter) + 129, quotient << (38 + shorter), exc, types);
+}
+
 /* a + b, or a - b with negate. */
 INLINE uint32_t f_add(uint32_t a, uint32_t b, bool negate, bool exc, uint32_t *types)
 {
@@ -187,7 +215,7 @@ INLINE int32_t f_rank(uint32_t f)
 enum work {
     NONE,
     ADD_L, SUBTRACT_L, MULTIPLY_L, BIT_SET, EXCLUSIVE_OR, BIT_CLEAR, SHIFT_RIGHT, SHIFT_LEFT,
-    ADD_F, SUBTRACT_F, MULTIPLY_F, TRUNCATED, ROUNDED, L_TO_F, MERGE,
+    ADD_F, SUBTRACT_F, MULTIPLY_F, DIVIDE_F, TRUNCATED, ROUNDED, L_TO_F, MERGE,
     COMPARE_L, COMPARE_F, CONVERT, IOTA,
     LOAD_L, LOAD_Q, STORE_L, STORE_Q, MEMORY = LOAD_L
 };
@@ -197,7 +225,8 @@ static const uint8_t works[256] = {
     BOTH(0x80, ADD_L), BOTH(0x88, SUBTRACT_L), BOTH(0xA0, MULTIPLY_L), BOTH(0xC0, COMPARE_L),
     BOTH(0xC8, BIT_SET), BOTH(0xE8, EXCLUSIVE_OR), BOTH(0xCC, BIT_CLEAR),
     BOTH(0xE0, SHIFT_RIGHT), BOTH(0xE4, SHIFT_LEFT),
-    BOTH(0x84, ADD_F), BOTH(0x8C, SUBTRACT_F), BOTH(0xA4, MULTIPLY_F), BOTH(0xC4, COMPARE_F),
+    BOTH(0x84, ADD_F), BOTH(0x8C, SUBTRACT_F), BOTH(0xA4, MULTIPLY_F), BOTH(0xAC, DIVIDE_F),
+    BOTH(0xC4, COMPARE_F),
     [0xEC] = CONVERT, [0xED] = IOTA, BOTH(0xEE, MERGE),
     BOTH(0x34, LOAD_L), BOTH(0x36, LOAD_Q), BOTH(0x9C, STORE_L), BOTH(0x9E, STORE_Q),
 };
@@ -260,6 +289,7 @@ INLINE uint64_t result(enum work work, uint64_t a, uint64_t b, uint64_t c, bool 
     case ADD_F: return with_low(c, f_add((uint32_t)a, (uint32_t)b, false, exc, types));
     case SUBTRACT_F: return with_low(c, f_add((uint32_t)a, (uint32_t)b, true, exc, types));
     case MULTIPLY_F: return with_low(c, f_multiply((uint32_t)a, (uint32_t)b, exc, types));
+    case DIVIDE_F: return with_low(c, f_divide((uint32_t)a, (uint32_t)b, exc, types));
     case TRUNCATED: return with_low(c, f_to_longword((uint32_t)b, false, exc, types));
     case ROUNDED: return with_low(c, f_to_longword((uint32_t)b, true, exc, types));
     case L_TO_F: return with_low(c, f_from_longword((uint32_t)b));
@@ -386,6 +416,7 @@ static void operate(uint64_t *elements, struct kuj_control *control, const struc
         OPERATE(ADD_F);
         OPERATE(SUBTRACT_F);
         OPERATE(MULTIPLY_F);
+        OPERATE(DIVIDE_F);
         OPERATE(TRUNCATED);
         OPERATE(ROUNDED);
         OPERATE(L_TO_F);

@@ -1,7 +1,7 @@
 // Every call of include/kujawian.h, put from C with arguments that tell its parameters apart: were two of them exchanged, in the
 // header or in the library, something below would come out otherwise. (The lengths of opcodes, cntrls and scalars alone may be
 // exchanged among themselves: unequal ones get 8 whichever is which.)
-// What is expected was worked out by hand from document 01, and is said beside each case. tests/header.sh runs it.
+// What is expected was worked out by hand from documents 01 and 02, and is said beside each case. tests/header.sh runs it.
 #include <inttypes.h>
 #include <stdio.h>
 #include <string.h>
@@ -88,6 +88,21 @@ static void execute(void) {
     want.control.vpsr = AEX;
     number = EXECUTE(0x81, 0x2025, 1, 3, 7, is.window, 16, 0x77);
     expect(call, "example 1", number, 0, 0);
+
+    // AD, the scalar over V2: 3 over 2, 0 and 1.5 is 1.5 (40C0), 8002 and 2 (4100). VAER gets bit 1 and the bit of V5, and keeps
+    // that of V0. <63:32> of the scalar play no part.
+    start(3);
+    V(is, 2, 0) = 0x4100;
+    V(is, 2, 2) = 0x40C0;
+    V(is, 5, 1) = 0x1111111122222222;
+    want = is;
+    V(want, 5, 0) = 0x40C0;
+    V(want, 5, 1) = 0x1111111100008002;
+    V(want, 5, 2) = 0x4100;
+    want.control.vaer = 0x00210002;
+    want.control.vpsr = AEX;
+    number = EXECUTE(0xAD, 0x0025, 0x8000800000004140, 3, 7, is.window, 16, 0x77);
+    expect(call, "divide", number, 0, 0);
 
     // Store L of V2 at 1008 + 8i; the window is 1000 to 1017. V2[0] goes to bytes 8 to 11, V2[1] to bytes 16 to 19, bits <31:0>
     // with the lowest byte first. The scalar holds anything.

@@ -5,16 +5,16 @@
 //! Each call is put `cases` times (20,000 if not said; lists a quarter as often). Number, what stands
 //! beside it, all elements, all controls and all memory are compared, guard bytes around every lent
 //! slice too. A queue that is done is put once more, to what it left. The exit status is 1 if anything
-//! differed, or if some number that a call can give, some accepted opcode done, some kind of list, or some number
-//! that only a cut would let through, never came up.
+//! differed, or if some number that a call can give, some accepted opcode done, some kind of list, some
+//! kind of division, or some number that only a cut would let through, never came up.
 
 use independent::generate::*;
 use independent::machine::*;
-use independent::queue::{accept, run, run_order, Queue};
+use independent::queue::{accept, first_bad_entry, run, run_order, steps, Queue};
 use independent::random::Random;
 use independent::saved::{load, reading, save, Reading};
 use independent::vectors::{check, directory, instruction_of, Arithmetic, Result32, F_TABLES, L_TABLES};
-use std::collections::BTreeMap;
+use std::collections::{BTreeMap, BTreeSet};
 use std::process::ExitCode;
 
 // The control record goes as five numbers: to a call it is the same as the header's struct.
@@ -157,6 +157,8 @@ struct Report {
     done: BTreeMap<u8, u64>,
     /// How often each kind of list came up.
     lists: BTreeMap<&'static str, u64>,
+    /// How often each kind of division came up, in an instruction, a queue and a list.
+    divisions: BTreeMap<&'static str, u64>,
     /// How often each number was refused that would be accepted if it were cut.
     wide: BTreeMap<&'static str, u64>,
     differences: u64,
@@ -200,9 +202,12 @@ fn compare_execute(random: &mut Random, cases: u64, report: &mut Report) {
             1 | 2 => random.pick(&accepted_opcodes(true)),
             _ => accepted[(case / 8 % accepted.len() as u64) as usize],
         };
-        let instruction = instruction(random, opcode);
+        let mut instruction = instruction(random, opcode);
         let decoded = fields(work_of(opcode).unwrap_or(Work::Load { bytes: 4 }), &instruction);
         let memory = memory(random, &decoded, &mut state);
+        if decoded.work == Work::DivideF && random.flip() {
+            quotients(random, &mut instruction, &mut state);
+        }
         let expected = execute(&state, &instruction, &memory);
         let mut lent = LentState::new(&state);
         let mut window = Lent::new(&memory.window, 0xC3);
@@ -227,6 +232,13 @@ fn compare_execute(random: &mut Random, cases: u64, report: &mut Report) {
         if number == 0 {
             *report.done.entry(opcode).or_default() += 1;
         }
+        if decoded.work == Work::DivideF && expected.is_ok() {
+            for (code, kind) in QUOTIENT_CODES {
+                let written =
+                    (0..64).any(|i| is_operated(&decoded, &state, i) && after.registers[decoded.vc][i] as u32 == code);
+                *report.divisions.entry(kind).or_default() += u64::from(written);
+            }
+        }
         report.case("execute", (number, lent.beside), answer(&expected, |_| 0), rest_same, || {
             format!(
                 "{instruction:X?} base {:X} stride {:X} origin {:X} length {}; {}",
@@ -238,6 +250,28 @@ fn compare_execute(random: &mut Random, cases: u64, report: &mut Report) {
             )
         });
     }
+}
+
+/// What a division writes for its exceptions: each has to come up in a done instruction.
+const QUOTIENT_CODES: [(u32, &str); 5] = [
+    (0x8001, "instructions done that wrote 8001"),
+    (0x8002, "instructions done that wrote 8002"),
+    (0x8004, "instructions done that wrote 8004"),
+    (0x8006, "instructions done that wrote 8006"),
+    (0x8008, "instructions done that wrote 8008"),
+];
+
+const DIVISIONS_IN_QUEUES: [&str; 5] = [
+    "queues done with a division",
+    "lists done with a division",
+    "lists done with a division that recorded a zero divisor",
+    "lists refused at a division's step",
+    "lists refused for the Va of a division alone",
+];
+
+/// The positions of a queue's divisions.
+fn divisions_of(queue: &Queue) -> Vec<usize> {
+    (0..queue.opcodes.len()).filter(|&position| work_of(queue.opcodes[position]) == Some(Work::DivideF)).collect()
 }
 
 fn lend_queue(queue: &Queue) -> (Lent<u8>, Lent<u16>, Lent<u64>) {
@@ -270,6 +304,9 @@ fn compare_run(random: &mut Random, cases: u64, report: &mut Report) {
             report.case("run", (number, lent.beside), answer(&expected, |_| 0), rest_same, || {
                 format!("{queue:X?}; {}", controls_text(&state))
             });
+            if expected.is_ok() && state.vlr > 0 && !divisions_of(&queue).is_empty() {
+                *report.divisions.entry("queues done with a division").or_default() += 1;
+            }
             let Ok(after) = expected else { break };
             state = after;
         }
@@ -296,14 +333,15 @@ fn list_for(random: &mut Random, state: &State, queue: &Queue) -> Vec<u64> {
     order
 }
 
-/// What a list's case is counted as, so that a kind that never comes up is noticed.
-fn kind_of_list(after: Result<&State, ()>, entries: usize) -> &'static str {
-    match after {
-        Err(()) => "refused",
-        Ok(after) if after.vpsr & VEN == 0 => "done with an exception",
-        Ok(_) if entries == 1024 => "done, 1,024 entries",
-        Ok(_) => "done",
+/// What a list's case is counted as, so that a kind that never comes up is noticed. The longest lists are
+/// counted with an exception too: few queues of 16 on all elements record none.
+fn kinds_of_list(after: Result<&State, ()>, entries: usize) -> Vec<&'static str> {
+    let Ok(after) = after else { return vec!["refused"] };
+    let mut kinds = vec![if after.vpsr & VEN == 0 { "done with an exception" } else { "done" }];
+    if entries == 1024 {
+        kinds.push("done, 1,024 entries");
     }
+    kinds
 }
 
 const KINDS_OF_LISTS: [&str; 4] = ["refused", "done", "done with an exception", "done, 1,024 entries"];
@@ -358,13 +396,40 @@ fn compare_run_order(random: &mut Random, cases: u64, report: &mut Report) {
                 format!("{queue:X?} list of {}; {}", order.len(), controls_text(&state))
             });
             if call == 0 && accepted {
-                *report
-                    .lists
-                    .entry(kind_of_list(expected.as_ref().map_err(|_| ()), order.len()))
-                    .or_default() += 1;
+                for kind in kinds_of_list(expected.as_ref().map_err(|_| ()), order.len()) {
+                    *report.lists.entry(kind).or_default() += 1;
+                }
+                count_divisions(&state, &queue, &order, &expected, report);
             }
             let Ok(after) = expected else { break };
             state = after;
+        }
+    }
+}
+
+/// Counts an accepted queue's list by what becomes of its divisions.
+fn count_divisions(before: &State, queue: &Queue, order: &[u64], result: &Result<State, Refusal>, report: &mut Report) {
+    let positions = divisions_of(queue);
+    if positions.is_empty() || before.vlr == 0 {
+        return;
+    }
+    let mut count = |kind: &'static str, came: bool| *report.divisions.entry(kind).or_default() += u64::from(came);
+    match result {
+        Ok(after) => {
+            count("lists done with a division", true);
+            let recorded = before.vaer & 2 == 0 && after.vaer & 2 != 0;
+            count("lists done with a division that recorded a zero divisor", recorded);
+        }
+        Err(refusal) => {
+            // A step that comes too early, or a repeat of it.
+            let entry = order.get(refusal.beside as usize).copied().unwrap_or(u64::MAX);
+            let step = positions.iter().any(|&position| entry / 64 == position as u64) && entry % 64 < before.vlr;
+            count("lists refused at a division's step", step);
+            // As if no division read Va: the list would be permitted, or refused later.
+            let mut instructions = accept(before, queue).expect("an accepted queue");
+            positions.iter().for_each(|&position| instructions[position].scalar_form = true);
+            let otherwise = first_bad_entry(&steps(&instructions, before.vlr as usize), order);
+            count("lists refused for the Va of a division alone", otherwise != Some(refusal.beside as usize));
         }
     }
 }
@@ -596,9 +661,13 @@ impl Arithmetic for Executed {
     }
 }
 
+/// Of the 256 opcodes (document 02, Q-1).
+const RESERVED_OPCODES: usize = 216;
+
 /// All 256 opcodes with all 65,536 control words, at VLR 0 and with an empty window: which number
 /// each gets.
 fn compare_acceptance(report: &mut Report) {
+    let mut reserved = BTreeSet::new();
     let mut elements = vec![0u64; 1024];
     let mut window = [0u8; 1];
     for opcode in 0..=255u8 {
@@ -621,6 +690,9 @@ fn compare_acceptance(report: &mut Report) {
                     &mut beside,
                 )
             };
+            if number == RESERVED_OPCODE {
+                reserved.insert(opcode);
+            }
             let instruction = Instruction { opcode, control_word: cntrl, scalar: 0 };
             let expected = match work_of(opcode) {
                 None => RESERVED_OPCODE,
@@ -635,7 +707,11 @@ fn compare_acceptance(report: &mut Report) {
             }
         }
     }
-    println!("acceptance: 16777216 opcodes and control words");
+    report.differences += u64::from(reserved.len() != RESERVED_OPCODES);
+    println!(
+        "acceptance: 16777216 opcodes and control words; {} opcodes reserved, {RESERVED_OPCODES} expected",
+        reserved.len()
+    );
 }
 
 fn main() -> ExitCode {
@@ -660,12 +736,7 @@ fn main() -> ExitCode {
             for difference in found.differences.iter().take(20) {
                 println!("DIFFERS: with {form}: {difference}");
             }
-            println!(
-                "outside vectors with {form}: {} rows, {} rows of the known difference, {} differ",
-                found.rows,
-                found.known,
-                found.differences.len()
-            );
+            println!("outside vectors with {form}: {found}");
             report.differences += found.differences.len() as u64;
         }
     }
@@ -691,6 +762,13 @@ fn main() -> ExitCode {
     for kind in KINDS_OF_LISTS {
         let count = report.lists.get(kind).copied().unwrap_or(0);
         println!("lists {kind}: {count}");
+        if count == 0 {
+            missing += 1;
+        }
+    }
+    for kind in DIVISIONS_IN_QUEUES.into_iter().chain(QUOTIENT_CODES.map(|(_, kind)| kind)) {
+        let count = report.divisions.get(kind).copied().unwrap_or(0);
+        println!("divisions, {kind}: {count}");
         if count == 0 {
             missing += 1;
         }

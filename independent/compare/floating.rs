@@ -7,7 +7,7 @@
 //! through the proved library. The exit status is 1 if anything differed.
 
 use independent::float::F;
-use independent::generate::{f_for_longword, f_pair, longword};
+use independent::generate::{f_for_longword, f_pair, f_quotient_pair, longword};
 use independent::random::Random;
 use independent::vectors::{check, directory, Arithmetic, Result32, F_TABLES, RELATIONS};
 use std::process::ExitCode;
@@ -16,6 +16,8 @@ extern "C" {
     fn kuj_f_add(a: u32, b: u32, exc: u32) -> u64;
     fn kuj_f_subtract(a: u32, b: u32, exc: u32) -> u64;
     fn kuj_f_multiply(a: u32, b: u32, exc: u32) -> u64;
+    // Va's operand, the dividend, then Vb's.
+    fn kuj_f_divide(a: u32, b: u32, exc: u32) -> u64;
     // Va's operand, Vb's, then the relation. All three are of one type, so that only this comparison
     // would notice another order.
     fn kuj_f_compare(a: u32, b: u32, relation: u32) -> u64;
@@ -37,6 +39,7 @@ impl Arithmetic for Proved {
                 "ADDF" => kuj_f_add(a, b, exc),
                 "SUBF" => kuj_f_subtract(a, b, exc),
                 "MULF" => kuj_f_multiply(a, b, exc),
+                "DIVF" => kuj_f_divide(a, b, exc),
                 "CMPF" => kuj_f_compare(a, b, relation),
                 "CVTRFL" => kuj_f_cvt_rounded(b, exc),
                 "CVTFL" => kuj_f_cvt_truncated(b, exc),
@@ -54,6 +57,7 @@ fn own(table: &str, a: u32, b: u32, exc: bool, relation: u32) -> Result32 {
         "ADDF" => F.add(a, b, exc),
         "SUBF" => F.subtract(a, b, exc),
         "MULF" => F.multiply(a, b, exc),
+        "DIVF" => F.divide(a, b, exc),
         "CMPF" => F.compare(a, b, relation).expect("an accepted relation"),
         "CVTRFL" => F.to_longword(b, true, exc),
         "CVTFL" => F.to_longword(b, false, exc),
@@ -87,6 +91,8 @@ fn operands(random: &mut Random, table: &str) -> (u32, u32) {
     match table {
         "CVTRFL" | "CVTFL" => (0, f_for_longword(random)),
         "CVTLF" => (0, longword(random)),
+        // Most of them near the edges of quotients; one in 8 near those of sums and products.
+        "DIVF" if !random.once_in(8) => f_quotient_pair(random),
         _ => f_pair(random),
     }
 }
@@ -115,6 +121,16 @@ fn compare_operation(random: &mut Random, table: &str, pairs: u64, report: &mut 
         "{table}: {pairs} drawn; quiet {}, underflow {}, reserved operand {}, overflow {}, integer overflow {}",
         kinds[0], kinds[1], kinds[4], kinds[8], kinds[32]
     );
+    if table == "DIVF" {
+        println!("{table}: divide by zero {}, reserved operand over zero {}", kinds[2], kinds[6]);
+        // Every sort of result of Q-1 has to come up.
+        for types in [0, 1, 2, 4, 6, 8] {
+            if kinds[types] == 0 {
+                println!("{table} never came to types {types}");
+                report.differences += 1;
+            }
+        }
+    }
 }
 
 /// The batch: EXC clear, the products of as many as the shortest of the three holds; the rest of `out`
@@ -161,13 +177,7 @@ fn main() -> ExitCode {
     for difference in found.differences.iter().take(SHOWN as usize) {
         println!("DIFFERS: {difference}");
     }
-    println!(
-        "outside vectors: {} rows, {} results, {} rows of the known difference, {} differ",
-        found.rows,
-        found.results,
-        found.known,
-        found.differences.len()
-    );
+    println!("outside vectors: {found}");
     let same = report.differences == 0 && found.differences.is_empty() && report.results > 0;
     println!("{}", if same { "SAME" } else { "DIFFERENT" });
     if same {

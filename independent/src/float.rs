@@ -1,13 +1,14 @@
 //! Floating-point numbers of the VAX, worked out with whole numbers only (document 01, "What an
-//! element receives"). No machine floating-point type takes part in any result.
+//! element receives"; document 02, Q-1). No machine floating-point type takes part in any result.
 //!
 //! Everything is over a `Format`; only F_floating is made.
 
 use crate::whole::Whole;
 use std::cmp::Ordering;
 
-/// VAER type bits (document 01: bits 0, 2, 3 and 5).
+/// VAER type bits (document 01: bits 0, 2, 3 and 5; Q-1: bit 1).
 pub const UNDERFLOW: u32 = 1;
+pub const DIVIDE_BY_ZERO: u32 = 2;
 pub const RESERVED_OPERAND: u32 = 4;
 pub const OVERFLOW: u32 = 8;
 pub const INTEGER_OVERFLOW: u32 = 32;
@@ -50,6 +51,14 @@ struct Exact {
     negative: bool,
     size: Whole,
     scale: i64,
+}
+
+/// An exact quotient: (-1)^negative * numerator / denominator, neither of which is zero.
+#[derive(Clone, Copy, PartialEq, Eq, Debug)]
+struct Quotient {
+    negative: bool,
+    numerator: Whole,
+    denominator: Whole,
 }
 
 /// Document 01's relations, by their number in <2:0> of the control word; None for 3 and 7.
@@ -172,6 +181,34 @@ impl Format {
         Outcome { value: self.assemble(exact.negative, exponent as u32, significand), types: 0 }
     }
 
+    /// The exact quotient rounded to the format, halves away from zero.
+    fn quotient_rounded(&self, quotient: Quotient, exc: bool) -> Outcome {
+        let Quotient { negative, numerator, denominator } = quotient;
+        // Underflow: on the exact value, before rounding. The smallest number is 2^-excess.
+        if numerator.times_power_of_two(self.excess() as u32) < denominator {
+            return if exc { self.exception(UNDERFLOW) } else { Outcome { value: 0, types: 0 } };
+        }
+        // The exact value is 0.1... * 2^power: below 2^power, and 2^(power - 1) or more. It lies between
+        // 2^(digits - 1) and 2^(digits + 1), digits being what the numerator has more of than the denominator.
+        let digits = i64::from(numerator.digits()) - i64::from(denominator.digits());
+        let (n, d) = over_power(&numerator, &denominator, digits);
+        let power = if n < d { digits } else { digits + 1 };
+        // In units of the last place: n / d, and the nearest whole number is that of n / d + 1/2.
+        let kept = self.significant_bits();
+        let (n, d) = over_power(&numerator, &denominator, power - i64::from(kept));
+        let nearest = n.plus(&n).plus(&d).over(&d.plus(&d)).low_64();
+        let (significand, exponent) = if nearest == 1 << kept {
+            (nearest / 2, power + 1 + self.excess())
+        } else {
+            (nearest, power + self.excess())
+        };
+        // Overflow: after rounding.
+        if exponent > i64::from(self.greatest_exponent()) {
+            return self.exception(OVERFLOW);
+        }
+        Outcome { value: self.assemble(negative, exponent as u32, significand), types: 0 }
+    }
+
     pub fn add(&self, a: u64, b: u64, exc: bool) -> Outcome {
         match (self.exact(a), self.exact(b)) {
             (Some(a), Some(b)) => self.rounded(sum(a, b), exc),
@@ -198,6 +235,25 @@ impl Format {
                 let product = Whole::of(u128::from(sa) * u128::from(sb));
                 let size = product.times_power_of_two(ea - 1 + eb - 1);
                 self.rounded(Exact { negative: na != nb, size, scale: 2 * self.unit() }, exc)
+            }
+        }
+    }
+
+    /// a over b. A zero divisor goes before every other case, and a reserved dividend over it is both.
+    pub fn divide(&self, a: u64, b: u64, exc: bool) -> Outcome {
+        match (self.operand(a), self.operand(b)) {
+            (Operand::Reserved, Operand::Zero) => self.exception(DIVIDE_BY_ZERO | RESERVED_OPERAND),
+            (_, Operand::Zero) => self.exception(DIVIDE_BY_ZERO),
+            (Operand::Reserved, _) | (_, Operand::Reserved) => self.exception(RESERVED_OPERAND),
+            (Operand::Zero, Operand::Number { .. }) => Outcome { value: 0, types: 0 },
+            (
+                Operand::Number { negative: na, exponent: ea, significand: sa },
+                Operand::Number { negative: nb, exponent: eb, significand: sb },
+            ) => {
+                // Both are whole numbers of the unit, which goes out.
+                let numerator = Whole::of(sa.into()).times_power_of_two(ea - 1);
+                let denominator = Whole::of(sb.into()).times_power_of_two(eb - 1);
+                self.quotient_rounded(Quotient { negative: na != nb, numerator, denominator }, exc)
             }
         }
     }
@@ -274,6 +330,16 @@ fn sum(a: Exact, b: Exact) -> Exact {
     Exact { negative, size, scale: a.scale }
 }
 
+/// Numerator and denominator of n / d / 2^power, whichever sign the power has.
+fn over_power(n: &Whole, d: &Whole, power: i64) -> (Whole, Whole) {
+    let places = power.unsigned_abs() as u32;
+    if power < 0 {
+        (n.times_power_of_two(places), *d)
+    } else {
+        (*n, d.times_power_of_two(places))
+    }
+}
+
 #[cfg(test)]
 mod tests {
     use super::*;
@@ -348,6 +414,117 @@ mod tests {
         // Overflow after rounding: a carry into exponent 256.
         assert_eq!(F.add(0xFFFF_7FFF, 0x7380, true), f(0x8008, OVERFLOW));
         assert_eq!(F.add(0xFFFF_7FFF, 0x7300, true), f(0xFFFF_7FFF, 0));
+    }
+
+    #[test]
+    fn quotients_are_rounded() {
+        for exc in [false, true] {
+            assert_eq!(F.divide(0x41C0, 0x4140, exc), f(0x4100, 0)); // 6 / 3
+            assert_eq!(F.divide(0x4140, 0xC100, exc), f(0xC0C0, 0)); // 3 / -2
+            assert_eq!(F.divide(0x4080, 0x4140, exc), f(0xAAAB_3FAA, 0)); // 1 / 3: AAAAAA.AA up
+            assert_eq!(F.divide(0x41A0, 0x4140, exc), f(0x5555_40D5, 0)); // 5 / 3: D55555.55 down
+            assert_eq!(F.divide(0xC080, 0x4140, exc), f(0xAAAB_BFAA, 0)); // -1 / 3: away from zero
+            assert_eq!(F.divide(0xC1A0, 0x4140, exc), f(0x5555_C0D5, 0)); // -5 / 3: towards zero
+        }
+        // FFFFFE / FFFFFF is just below 1 - 2^-24, which is FFFFFF in units of 2^-24.
+        assert_eq!(F.divide(0xFFFE_407F, 0xFFFF_407F, true), f(0xFFFF_407F, 0));
+        // FFFFFF / FFFFFE is 1 + 2^-24 and a little more: above the half between 1 and the next number.
+        assert_eq!(F.divide(0xFFFF_407F, 0xFFFE_407F, true), f(0x0001_4080, 0));
+        // 1 / FFFFFF (as 1 - 2^-24) is 1 + 2^-24 and a little more too; 1 / (1 + 2^-23) is 1 - 2^-23 and a little.
+        assert_eq!(F.divide(0x4080, 0xFFFF_407F, true), f(0x0001_4080, 0));
+        assert_eq!(F.divide(0x4080, 0x0001_4080, true), f(0xFFFE_407F, 0));
+    }
+
+    /// Every quotient of a narrow format, by the plain definition: no number of the format is nearer, of two
+    /// equally near the greater size is given, and the ends of the range are where document 01 has them.
+    #[test]
+    fn quotients_of_a_narrow_format() {
+        // 12 significant bits, exponents 1 to 15: only the fraction's top and low digits are varied.
+        let narrow = Format { bits: 16, exponent_bits: 4 };
+        let top = 1u64 << narrow.fraction_bits();
+        let significands: Vec<u64> = (0..16).chain(top / 2 - 4..top / 2 + 4).chain(top - 16..top).collect();
+        let size = |bits: u64| match narrow.operand(bits) {
+            Operand::Number { exponent, significand, .. } => u128::from(significand) << exponent,
+            _ => panic!("a number"),
+        };
+        let smallest = u128::from(top) << 1;
+        let unit_of_one = 1u128 << (narrow.significant_bits() as i64 + narrow.excess());
+        for ea in 1..=15 {
+            for eb in 1..=15 {
+                for &fa in &significands {
+                    for &fb in &significands {
+                        let a = narrow.assemble(false, ea, top + fa);
+                        let b = narrow.assemble(true, eb, top + fb);
+                        // n / d is the size of the quotient in the units of `size`.
+                        let (n, d) = (size(a) * unit_of_one, size(b));
+                        let outcome = narrow.divide(a, b, true);
+                        if n < smallest * d {
+                            assert_eq!(outcome, Outcome { value: 0x8001, types: UNDERFLOW });
+                            assert_eq!(narrow.divide(a, b, false), Outcome { value: 0, types: 0 });
+                            continue;
+                        }
+                        if outcome.types != 0 {
+                            assert_eq!(outcome, Outcome { value: 0x8008, types: OVERFLOW });
+                            // Half a place past the greatest number, or more.
+                            let greatest = u128::from(2 * top - 1) << 15;
+                            assert!(2 * n >= (2 * greatest + (1 << 15)) * d);
+                            continue;
+                        }
+                        let Operand::Number { negative: true, exponent, significand } = narrow.operand(outcome.value)
+                        else {
+                            panic!("{outcome:?} is no negative number");
+                        };
+                        // Below half a place above it, and not more than half a place below it; the place below a
+                        // power of two is half as wide.
+                        let (given, place) = (size(outcome.value), 1u128 << exponent);
+                        let below = if significand == top { place } else { 2 * place };
+                        assert!(4 * n < (4 * given + 2 * place) * d);
+                        assert!(4 * n >= (4 * given - below) * d);
+                    }
+                }
+            }
+        }
+    }
+
+    #[test]
+    fn quotients_at_the_ends_of_the_range() {
+        // 2^126 / 2^-1 would be 2^127, whose exponent is 256; over 1 it is 2^126, the greatest power.
+        assert_eq!(F.divide(0x7F80, 0x4080, true), f(0x7F80, 0));
+        assert_eq!(F.divide(0x7F80, 0x4000, false), f(0x8008, OVERFLOW));
+        // The greatest number over 1 stays, and over anything below 1 overflows.
+        assert_eq!(F.divide(0xFFFF_7FFF, 0x4080, false), f(0xFFFF_7FFF, 0));
+        assert_eq!(F.divide(0xFFFF_7FFF, 0xFFFF_407F, false), f(0x8008, OVERFLOW));
+        // The smallest over 1, over 2, and over the number next to 1, which is just below the smallest.
+        assert_eq!(F.divide(0x0080, 0x4080, true), f(0x0080, 0));
+        for divisor in [0x4100, 0x0001_4080] {
+            assert_eq!(F.divide(0x0080, divisor, true), f(0x8001, UNDERFLOW));
+            assert_eq!(F.divide(0x0080, divisor, false), f(0, 0));
+        }
+        // The nearest quotient below the smallest number: FFFFFE / FFFFFF of it.
+        assert_eq!(F.divide(0xFFFE_00FF, 0xFFFF_40FF, true), f(0x8001, UNDERFLOW));
+        assert_eq!(F.divide(0xFFFF_00FF, 0xFFFF_40FF, true), f(0x0080, 0));
+        // The widest apart.
+        assert_eq!(F.divide(0xFFFF_7FFF, 0x0080, true), f(0x8008, OVERFLOW));
+        assert_eq!(F.divide(0x0080, 0xFFFF_7FFF, true), f(0x8001, UNDERFLOW));
+    }
+
+    #[test]
+    fn zeros_and_reserved_operands_in_a_division() {
+        let (dirty, reserved, one) = (0xFFFF_007F, 0x0012_8034, 0x4080);
+        for exc in [false, true] {
+            for zero in [0, dirty] {
+                assert_eq!(F.divide(reserved, zero, exc), f(0x8006, 6));
+                for dividend in [0, dirty, one, 0xC080, 0xFFFF_7FFF, 0x0080] {
+                    assert_eq!(F.divide(dividend, zero, exc), f(0x8002, 2));
+                }
+                assert_eq!(F.divide(zero, one, exc), f(0, 0));
+                assert_eq!(F.divide(zero, 0xC080, exc), f(0, 0));
+                assert_eq!(F.divide(zero, reserved, exc), f(0x8004, 4));
+            }
+            assert_eq!(F.divide(reserved, one, exc), f(0x8004, 4));
+            assert_eq!(F.divide(one, reserved, exc), f(0x8004, 4));
+            assert_eq!(F.divide(reserved, reserved, exc), f(0x8004, 4));
+        }
     }
 
     #[test]

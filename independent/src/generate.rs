@@ -97,6 +97,79 @@ pub fn f_pair(random: &mut Random) -> (u32, u32) {
     }
 }
 
+/// Significands a and b whose quotient lies as near as can be to half way between two numbers (r odd), or
+/// to a number (r even): a * 2^places = x * b + r, x having 25 digits, the last of which is the half.
+/// With b odd there is one such x below 2^places for every r; None if it does not have 25 digits, or a not 24.
+fn near_quotient(b: u64, r: i64, places: u32) -> Option<(u64, u64)> {
+    assert!(b % 2 == 1 && (places == 24 || places == 25));
+    // The inverse of b modulo 2^64, each turn doubling the digits that are right; b * b is 1 modulo 8.
+    let mut inverse = b;
+    for _ in 0..5 {
+        inverse = inverse.wrapping_mul(2u64.wrapping_sub(b.wrapping_mul(inverse)));
+    }
+    let below = (r as u64).wrapping_neg().wrapping_mul(inverse) % (1 << places);
+    // At 24 places the quotient is 1 or more, and x is 2^24 and what was found; at 25 it is below 1.
+    let x = if places == 24 { below + (1 << 24) } else { below };
+    let scaled = i128::from(x) * i128::from(b) + i128::from(r);
+    assert!(scaled % (1 << places) == 0);
+    let a = scaled >> places;
+    (x >> 24 == 1 && a >> 23 == 1).then_some((a as u64, b))
+}
+
+/// Two operands whose quotient lies near a half way case, near a power of two, near the ends of the range,
+/// or is exact; or that are no numbers, on either side or on both.
+pub fn f_quotient_pair(random: &mut Random) -> (u32, u32) {
+    if random.once_in(8) {
+        return match random.below(4) {
+            0 => (exponent_zero(random), f_operand(random)),
+            1 => (f_operand(random), exponent_zero(random)),
+            _ => (exponent_zero(random), exponent_zero(random)),
+        };
+    }
+    const TOP: u64 = 1 << 23;
+    let drawn = significand(random);
+    let (sa, sb) = match random.below(9) {
+        // The same significand, and neighbouring ones: quotients of 1, and just above and below it.
+        0 => (drawn, drawn),
+        1 => (drawn, (drawn + random.below(9)).saturating_sub(4).clamp(TOP, 2 * TOP - 1)),
+        // The greatest over the smallest significands, and the other way: just below 2 and above 1/2.
+        2 => (2 * TOP - random.between(1, 6), TOP + random.below(6)),
+        3 => (TOP + random.below(6), 2 * TOP - random.between(1, 6)),
+        // As near to a half, or to a number, as may be.
+        4 | 5 => {
+            let r = random.below(17) as i64 - 8;
+            near_quotient(drawn | 1, r, random.pick(&[24, 25])).unwrap_or((drawn, significand(random)))
+        }
+        // An exact quotient: a is b times a number of the digits that b leaves.
+        6 => {
+            let digits = random.between(1, 23);
+            let b = 1 << (digits - 1) | random.below(1 << (digits - 1));
+            let a = b * (1 << (23 - digits) | random.below(1 << (23 - digits)));
+            (a << (24 - (64 - a.leading_zeros())), b << (24 - digits))
+        }
+        7 => (drawn, random.between(TOP, 2 * TOP - 1)),
+        _ => (drawn, significand(random)),
+    };
+    // The quotient's exponent is ea - eb + 129, or one less.
+    let apart = match random.below(4) {
+        0 => Some(random.between(0, 4) as i64 - 2 + 1 - 129),
+        1 => Some(random.between(0, 4) as i64 - 2 + 255 - 129),
+        _ => None,
+    };
+    let (ea, eb) = match apart {
+        Some(apart) if apart < 0 => {
+            let ea = random.between(1, (255 + apart) as u64) as i64;
+            (ea, ea - apart)
+        }
+        Some(apart) => {
+            let eb = random.between(1, (255 - apart) as u64) as i64;
+            (eb + apart, eb)
+        }
+        None => (exponent(random) as i64, exponent(random) as i64),
+    };
+    (number(random.flip(), ea, sa), number(random.flip(), eb, sb))
+}
+
 pub fn longword(random: &mut Random) -> u32 {
     match random.below(8) {
         0 => random.pick(&[0, 1, 2, 0x7FFF_FFFF, 0x8000_0000, 0x8000_0001, 0xFFFF_FFFF, 0xFFFF_FFFE]),
@@ -293,6 +366,22 @@ pub fn instruction(random: &mut Random, opcode: u8) -> Instruction {
     Instruction { opcode, control_word: control_word(random, opcode, reserved), scalar: scalar(random) }
 }
 
+/// Operands of a division that meet its edges: in Va and Vb, if they are two registers, and for the scalar.
+pub fn quotients(random: &mut Random, divide: &mut Instruction, state: &mut State) {
+    let decoded = fields(Work::DivideF, divide);
+    let put = |slot: &mut u64, low: u32| *slot = *slot >> 32 << 32 | u64::from(low);
+    for element in 0..ELEMENTS {
+        let (a, b) = f_quotient_pair(random);
+        if element == 0 || decoded.va != decoded.vb {
+            put(&mut state.registers[decoded.va][element], a);
+            put(&mut state.registers[decoded.vb][element], b);
+        }
+        if element == 0 {
+            put(&mut divide.scalar, a);
+        }
+    }
+}
+
 // -------------------------------------------------------------------------------------------- Memory
 
 /// Bytes before and after a window that no call may touch.
@@ -367,11 +456,13 @@ pub fn queue(random: &mut Random) -> Vec<Instruction> {
         1 => 16,
         _ => random.between(2, 8),
     };
-    // At times a queue of little but IOTAs, compares and merges: bound by VMR and VCR alone.
-    let favoured: &[u8] = match random.below(3) {
+    // At times a queue of little but IOTAs, compares and merges: bound by VMR and VCR alone. At times one of
+    // little but divisions and what writes their operands: bound by Va too.
+    let favoured: &[u8] = match random.below(4) {
         0 => &[0xED, 0xC1, 0xEF],
         1 => &[0xED, 0xED, 0x81],
-        _ => &[0xC0, 0xC1, 0xC4, 0xED, 0xEE, 0xEF, 0x81, 0xA4],
+        2 => &[0xAC, 0xAC, 0xAD, 0x85],
+        _ => &[0xC0, 0xC1, 0xC4, 0xED, 0xEE, 0xEF, 0x81, 0xA4, 0xAC, 0xAD],
     };
     let often = random.pick(&[2, 3, 6]);
     (0..length)
@@ -630,8 +721,79 @@ pub fn room(random: &mut Random) -> usize {
 #[cfg(test)]
 mod tests {
     use super::*;
+    use crate::float::Operand;
     use crate::queue::{accept, first_bad_entry, run, run_order};
     use std::collections::BTreeSet;
+
+    /// What a quotient is near to, by its remainders: each of the edges comes up among few pairs.
+    #[test]
+    fn quotient_pairs_reach_the_edges() {
+        let mut random = Random::new(13);
+        let mut found = BTreeSet::new();
+        for _ in 0..20_000 {
+            let (a, b) = f_quotient_pair(&mut random);
+            let (quiet, outcome) = (F.divide(a.into(), b.into(), false), F.divide(a.into(), b.into(), true));
+            found.insert(match outcome.types {
+                0 => "quiet",
+                1 => "underflow",
+                2 => "divide by zero",
+                4 => "reserved operand",
+                6 => "reserved operand over zero",
+                8 => "overflow",
+                _ => panic!("{outcome:?}"),
+            });
+            assert_eq!(quiet == outcome, outcome.types != 1);
+            match (F.operand(a.into()), F.operand(b.into())) {
+                (Operand::Zero, Operand::Zero) => drop(found.insert("zero over zero")),
+                (Operand::Zero, Operand::Number { .. }) if a != 0 => drop(found.insert("dirty zero over a number")),
+                (Operand::Number { .. }, Operand::Zero) if b != 0 => drop(found.insert("a number over a dirty zero")),
+                (Operand::Zero, Operand::Reserved) => drop(found.insert("zero over reserved")),
+                (Operand::Number { .. }, Operand::Reserved) => drop(found.insert("a number over reserved")),
+                (Operand::Reserved, Operand::Reserved) => drop(found.insert("reserved over reserved")),
+                _ => (),
+            }
+            let (
+                Operand::Number { significand: sa, exponent: ea, .. },
+                Operand::Number { significand: sb, exponent: eb, .. },
+            ) = (F.operand(a.into()), F.operand(b.into()))
+            else {
+                continue;
+            };
+            // 25 digits of the quotient, the half last, and what is left.
+            let places = if sa < sb { 25 } else { 24 };
+            let (digits, rest) = ((sa << places) / sb, (sa << places) % sb);
+            assert!(digits >> 24 == 1);
+            let exponent = i64::from(ea) - i64::from(eb) + if sa < sb { 128 } else { 129 };
+            // With a remainder of 1, or 1 short of b, it cannot be nearer; near a number both are 2, as all else is even.
+            found.insert(match (digits % 2, rest, sb - rest) {
+                (0, 0, _) => "exact",
+                (0, 2, _) => "just above a number",
+                (0, _, 1) => "just below a half",
+                (0, ..) => "rounded down",
+                (_, 1, _) => "just above a half",
+                (_, _, 2) => "just below a number",
+                _ => "rounded up",
+            });
+            if digits + 2 >= 1 << 25 {
+                found.insert(match exponent {
+                    0 => "all ones below the smallest number",
+                    255 => "all ones at the greatest exponent",
+                    _ => "all ones",
+                });
+            }
+            match exponent {
+                0 => drop(found.insert("exponent 0")),
+                1 => drop(found.insert("exponent 1")),
+                255 => drop(found.insert("exponent 255")),
+                256 => drop(found.insert("exponent 256")),
+                _ => (),
+            }
+            if (exponent, digits, rest) == (1, 1 << 24, 0) {
+                found.insert("the smallest number");
+            }
+        }
+        assert_eq!(found.len(), 27, "{found:?}");
+    }
 
     #[test]
     fn permitted_orders_end_as_the_straight_run() {

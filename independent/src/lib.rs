@@ -1,5 +1,6 @@
-//! A second program for document 01, written from the papers alone. It shares no code with the proved
-//! library and takes the plainest way everywhere: it is what the proved library is compared with.
+//! A second program for document 01 and document 02's Q-1, written from the papers alone. It shares no
+//! code with the proved library and takes the plainest way everywhere: it is what the proved library is
+//! compared with.
 
 pub mod float;
 pub mod generate;

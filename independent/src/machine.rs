@@ -1,6 +1,6 @@
-//! The vector processor of document 01: state, opcodes, one instruction, memory, control moves.
-//! Sections follow document 01's order. Calls take a state and give a new one, so that a refusal can
-//! change nothing.
+//! The vector processor of document 01, with document 02's divide: state, opcodes, one
+//! instruction, memory, control moves. Sections follow document 01's order. Calls take a state and give
+//! a new one, so that a refusal can change nothing.
 
 use crate::float::{relation_holds, F, INTEGER_OVERFLOW};
 
@@ -102,6 +102,7 @@ pub enum Work {
     AddF,
     SubtractF,
     MultiplyF,
+    DivideF,
     CompareF,
     Convert,
     Iota,
@@ -136,6 +137,7 @@ pub fn work_of(opcode: u8) -> Option<Work> {
         0x84 | 0x85 => Work::AddF,
         0x8C | 0x8D => Work::SubtractF,
         0xA4 | 0xA5 => Work::MultiplyF,
+        0xAC | 0xAD => Work::DivideF,
         0xC4 | 0xC5 => Work::CompareF,
         0xEC => Work::Convert,
         0xED => Work::Iota,
@@ -260,6 +262,7 @@ pub fn element_work(d: &Decoded, a: u64, b: u64, c: u64, bit: bool) -> Left {
         Work::AddF => floating(F.add(fa, fb, d.exc)),
         Work::SubtractF => floating(F.subtract(fa, fb, d.exc)),
         Work::MultiplyF => floating(F.multiply(fa, fb, d.exc)),
+        Work::DivideF => floating(F.divide(fa, fb, d.exc)),
         Work::CompareF => {
             let outcome = F.compare(fa, fb, d.relation()).expect("an accepted relation");
             Left { value: outcome.value, types: outcome.types }

@@ -22,13 +22,7 @@ fn vectors(folder: Option<&String>) -> ExitCode {
     for table in F_TABLES.into_iter().chain(L_TABLES) {
         match check(&folder, &[table], &Own) {
             Ok(found) => {
-                println!(
-                    "{table}: {} rows, {} results, {} rows of the known difference, {} differ",
-                    found.rows,
-                    found.results,
-                    found.known,
-                    found.differences.len()
-                );
+                println!("{table}: {found}");
                 found.differences.iter().take(5).for_each(|difference| println!("DIFFERS: {difference}"));
                 differ |= !found.differences.is_empty();
             }

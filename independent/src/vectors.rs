@@ -1,12 +1,14 @@
 //! The outside vectors (`vectors/README.md`): reading the tables, and checking any arithmetic by them.
 
-use crate::float::{relation_holds, Operand, F, INTEGER_OVERFLOW, OVERFLOW, RESERVED_OPERAND, UNDERFLOW};
+use crate::float::{
+    relation_holds, Operand, DIVIDE_BY_ZERO, F, INTEGER_OVERFLOW, OVERFLOW, RESERVED_OPERAND, UNDERFLOW,
+};
 use crate::machine::{element_work, fields, work_of, Instruction};
 use std::cmp::Ordering;
 use std::path::Path;
 use std::process::Command;
 
-pub const F_TABLES: [&str; 7] = ["ADDF", "SUBF", "MULF", "CMPF", "CVTFL", "CVTRFL", "CVTLF"];
+pub const F_TABLES: [&str; 8] = ["ADDF", "SUBF", "MULF", "DIVF", "CMPF", "CVTFL", "CVTRFL", "CVTLF"];
 pub const L_TABLES: [&str; 4] = ["ADDL", "SUBL", "MULL", "CMPL"];
 pub const ROWS: usize = 3_000;
 pub const RELATIONS: [u32; 6] = [0, 1, 2, 4, 5, 6];
@@ -27,6 +29,7 @@ pub fn instruction_of(table: &str) -> (u8, u16) {
         "ADDF" => (0x84, 1),
         "SUBF" => (0x8C, 1),
         "MULF" => (0xA4, 1),
+        "DIVF" => (0xAC, 1),
         "CMPF" => (0xC4, 1),
         "CVTLF" => (0xEC, 1),
         "CVTFL" => (0xEC, 4),
@@ -117,26 +120,46 @@ fn product_is_below_smallest(a: u32, b: u32) -> bool {
     }
 }
 
-/// What document 01 makes of a row for a setting of EXC (and a relation), and whether that is the
-/// known difference.
-fn expected(table: &str, row: &Row, exc: bool, relation: u32) -> Result<(Result32, bool), String> {
+/// Whether a row differs from the papers in a way that `vectors/README.md` names.
+#[derive(Clone, Copy, PartialEq, Eq, Debug)]
+enum Known {
+    Same,
+    /// A product below the smallest number that SIMH rounds up to it.
+    BelowSmallest,
+    /// A reserved operand over zero, of which SIMH says only that it is reserved.
+    ReservedOverZero,
+}
+
+fn is_reserved_over_zero(a: u32, b: u32) -> bool {
+    (F.operand(a.into()), F.operand(b.into())) == (Operand::Reserved, Operand::Zero)
+}
+
+/// What documents 01 and 02 make of a row for a setting of EXC (and a relation), and whether that is a
+/// known difference. Of DIVF no row is let off for its underflow: a quotient below the smallest number
+/// lies too far below for rounding to reach that number, so that SIMH's judgement after rounding is
+/// document 01's before it.
+fn expected(table: &str, row: &Row, exc: bool, relation: u32) -> Result<(Result32, Known), String> {
     let (said, status) = &row.said[usize::from(exc)];
     let to_longword = matches!(table, "CVTFL" | "CVTRFL");
-    let same = |result| Ok((result, false));
+    let same = |result| Ok((result, Known::Same));
     match (said, status.as_str()) {
         (Said::Order(order), "OK") => {
             let holds = relation_holds(relation, *order).ok_or("a reserved relation")?;
             same((holds.into(), 0))
         }
         (Said::Value(0x0080 | 0x8080), "OK") if table == "MULF" && product_is_below_smallest(row.a, row.b) => {
-            Ok((if exc { (0x8001, UNDERFLOW) } else { (0, 0) }, true))
+            Ok((if exc { (0x8001, UNDERFLOW) } else { (0, 0) }, Known::BelowSmallest))
         }
         (Said::Value(value), "OK") => same((*value, 0)),
         (Said::Value(value), "V") if !exc => same((*value, 0)),
         (Said::Value(value), "IOV") if exc => same((*value, INTEGER_OVERFLOW)),
         (_, "OVF") => same((0x8008, OVERFLOW)),
         (_, "UNF") if exc => same((0x8001, UNDERFLOW)),
+        (Said::Nothing, "DIV") if table == "DIVF" => same((0x8002, DIVIDE_BY_ZERO)),
         (Said::Nothing, "ROP") if to_longword || table.starts_with("CMP") => same((0, RESERVED_OPERAND)),
+        (Said::Nothing, "ROP") if table == "DIVF" && is_reserved_over_zero(row.a, row.b) => {
+            Ok(((0x8006, DIVIDE_BY_ZERO | RESERVED_OPERAND), Known::ReservedOverZero))
+        }
         (Said::Nothing, "ROP") => same((0x8004, RESERVED_OPERAND)),
         _ => Err(format!("{table}: no meaning for row {}", row.text)),
     }
@@ -147,8 +170,10 @@ fn expected(table: &str, row: &Row, exc: bool, relation: u32) -> Result<(Result3
 pub struct Findings {
     pub rows: usize,
     pub results: usize,
-    /// Rows where document 01's result is not SIMH's, as `vectors/README.md` says.
-    pub known: usize,
+    /// Rows where the papers' result is not SIMH's, as `vectors/README.md` says: products below the
+    /// smallest number, and reserved operands over zero.
+    pub below_smallest: usize,
+    pub reserved_over_zero: usize,
     pub differences: Vec<String>,
 }
 
@@ -157,12 +182,14 @@ pub fn check(directory: &Path, tables: &[&str], arithmetic: &dyn Arithmetic) -> 
     for table in tables {
         for row in rows(directory, table)? {
             found.rows += 1;
-            let mut known = false;
+            let mut known = Known::Same;
             let relations: &[u32] = if table.starts_with("CMP") { &RELATIONS } else { &[0] };
             for exc in [false, true] {
                 for &relation in relations {
                     let (expected, differs) = expected(table, &row, exc, relation)?;
-                    known |= differs;
+                    if differs != Known::Same {
+                        known = differs;
+                    }
                     let given = arithmetic.work(table, row.a, row.b, exc, relation);
                     found.results += 1;
                     if given != expected {
@@ -174,10 +201,25 @@ pub fn check(directory: &Path, tables: &[&str], arithmetic: &dyn Arithmetic) -> 
                     }
                 }
             }
-            found.known += usize::from(known);
+            found.below_smallest += usize::from(known == Known::BelowSmallest);
+            found.reserved_over_zero += usize::from(known == Known::ReservedOverZero);
         }
     }
     Ok(found)
+}
+
+impl std::fmt::Display for Findings {
+    fn fmt(&self, f: &mut std::fmt::Formatter) -> std::fmt::Result {
+        write!(
+            f,
+            "{} rows, {} results, {} products rounded up to the smallest number, {} reserved operands over zero, {} differ",
+            self.rows,
+            self.results,
+            self.below_smallest,
+            self.reserved_over_zero,
+            self.differences.len()
+        )
+    }
 }
 
 /// The repository's own `vectors/`.
@@ -194,11 +236,36 @@ mod tests {
         let tables: Vec<&str> = F_TABLES.into_iter().chain(L_TABLES).collect();
         let found = check(&directory(), &tables, &Own).unwrap();
         assert_eq!(found.differences, Vec::<String>::new());
-        assert_eq!(found.rows, 11 * ROWS);
-        // 9 tables of a result a setting, 2 of six relations a setting.
-        assert_eq!(found.results, 9 * ROWS * 2 + 2 * ROWS * 12);
-        assert!(found.known > 0, "the tables hold rows of the known difference");
-        println!("{} rows, {} with the known difference", found.rows, found.known);
+        assert_eq!(found.rows, 12 * ROWS);
+        // 10 tables of a result a setting, 2 of six relations a setting.
+        assert_eq!(found.results, 10 * ROWS * 2 + 2 * ROWS * 12);
+        assert!(found.below_smallest > 0 && found.reserved_over_zero > 0, "the tables hold both known differences");
+        println!("{found}");
+    }
+
+    /// Each known difference has its own table, and a zero divisor is met there with every sort of dividend.
+    #[test]
+    fn known_differences() {
+        for table in F_TABLES.into_iter().chain(L_TABLES) {
+            let found = check(&directory(), &[table], &Own).unwrap();
+            assert_eq!(found.below_smallest > 0, table == "MULF", "{table}");
+            assert_eq!(found.reserved_over_zero > 0, table == "DIVF", "{table}");
+        }
+        let zero_divisors: Vec<Row> = rows(&directory(), "DIVF")
+            .unwrap()
+            .into_iter()
+            .filter(|row| F.operand(row.b.into()) == Operand::Zero)
+            .collect();
+        for row in &zero_divisors {
+            let result = if is_reserved_over_zero(row.a, row.b) { (0x8006, 6) } else { (0x8002, 2) };
+            for exc in [false, true] {
+                assert_eq!(expected("DIVF", row, exc, 0).unwrap().0, result, "{}", row.text);
+            }
+        }
+        let with = |dividend: fn(&Operand) -> bool| zero_divisors.iter().any(|row| dividend(&F.operand(row.a.into())));
+        assert!(with(|a| *a == Operand::Zero) && with(|a| *a == Operand::Reserved));
+        assert!(with(|a| matches!(a, Operand::Number { .. })));
+        assert!(zero_divisors.iter().any(|row| row.b != 0), "a zero with a fraction");
     }
 
     /// The check is one that can fail.

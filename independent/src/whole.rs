@@ -1,11 +1,13 @@
 //! Whole numbers of a fixed, generous width.
 //!
 //! Every F_floating number is a whole number of the format's smallest unit, and every product is a
-//! whole number of that unit's square. Both fit here, so that no step on the way to a result rounds.
+//! whole number of that unit's square. Both fit here, so that no step on the way to a result rounds. A
+//! quotient is no such number; it is two of them, numerator and denominator, until it is rounded.
 
 use std::cmp::Ordering;
 
-/// 640 bits. The widest number of F is a product: 48 bits, moved up by at most 2 * 254 places.
+/// 640 bits. The widest number of F is a product: 48 bits, moved up by at most 2 * 254 places. (What a
+/// quotient is rounded from has 24 bits, moved up by at most 2 * 254 places and a few.)
 /// (G_floating would need 106 + 2 * 2046 bits, which is 66 limbs.)
 const LIMBS: usize = 10;
 
@@ -101,6 +103,20 @@ impl Whole {
         Whole { limbs }
     }
 
+    /// Divided by a number other than zero, the remainder dropped: long division, a binary digit at a time.
+    pub fn over(&self, divisor: &Whole) -> Whole {
+        assert!(!divisor.is_zero(), "a division by zero has no quotient");
+        let (mut quotient, mut rest) = (Whole::ZERO, *self);
+        for place in (0..=self.digits().saturating_sub(divisor.digits())).rev() {
+            let part = divisor.times_power_of_two(place);
+            if part <= rest {
+                rest = rest.minus(&part);
+                quotient = quotient.plus(&Whole::power_of_two(place));
+            }
+        }
+        quotient
+    }
+
     /// The lowest 64 binary digits.
     pub fn low_64(&self) -> u64 {
         self.limbs[0]
@@ -134,6 +150,14 @@ mod tests {
                     assert_eq!(Whole::of(a).minus(&Whole::of(b)), Whole::of(a - b));
                 }
                 assert_eq!(Whole::of(a).cmp(&Whole::of(b)), a.cmp(&b));
+                if b != 0 {
+                    assert_eq!(Whole::of(a).over(&Whole::of(b)), Whole::of(a / b));
+                    // Numerator and denominator moved up alike have the same quotient.
+                    let moved = |number| Whole::of(number).times_power_of_two(500);
+                    assert_eq!(moved(a).over(&moved(b)), Whole::of(a / b));
+                    let far = moved(a).over(&Whole::of(b)).over_power_of_two(500);
+                    assert_eq!(far, Whole::of(a / b));
+                }
             }
             for places in 0..128 {
                 assert_eq!(Whole::of(a).over_power_of_two(places), Whole::of(a >> places));
@@ -144,6 +168,12 @@ mod tests {
                 }
             }
         }
+    }
+
+    #[test]
+    #[should_panic]
+    fn nothing_is_divided_by_zero() {
+        Whole::of(1).over(&Whole::ZERO);
     }
 
     #[test]

@@ -216,7 +216,8 @@ fn stride_0() {
 #[test]
 fn opcode_table() {
     let accepted: Vec<u8> = (0..=255).filter(|&opcode| work_of(opcode).is_some()).collect();
-    assert_eq!(accepted.len(), 38);
+    // Document 01's 38, and document 02's two of divide.
+    assert_eq!(accepted.len(), 40);
     for opcode in accepted {
         let work = work_of(opcode).unwrap();
         let operate = (0x80..=0x8F).contains(&opcode) || opcode >= 0xA0;

@@ -122,10 +122,44 @@ fn runner_inputs() -> Vec<(&'static str, Vec<u8>)> {
     ]
     .to_vec();
     let seventeen = vec![add; 17];
+    // Each sort of quotient: exact, rounded up and down, overflow, underflow, by zero and by a dirty zero, of
+    // a reserved operand and by one, a zero over a number.
+    let mut quotients = State { vlr: 16, vmr: 0x5555, ..State::enabled() };
+    let pairs: [(u64, u64); 16] = [
+        (0x41C0, 0x4140),
+        (0x4080, 0x4140),
+        (0x41A0, 0xC140),
+        (0xFFFE_407F, 0xFFFF_407F),
+        (0xFFFF_7FFF, 0xFFFF_407F),
+        (0xFFFF_7FFF, 0x4080),
+        (0x0080, 0x0001_4080),
+        (0xFFFE_00FF, 0xFFFF_40FF),
+        (0x4080, 0),
+        (0, 0xFFFF_007F),
+        (0x1234_8056, 0),
+        (0x8000, 0xFFFF_007F),
+        (0x8000, 0x4080),
+        (0x4080, 0x1234_8056),
+        (0xFFFF_007F, 0x8000),
+        (0xFFFF_007F, 0xC080),
+    ];
+    for (element, (a, b)) in pairs.into_iter().enumerate() {
+        quotients.registers[1][element] = 0xAAAA_AAAA << 32 | a;
+        quotients.registers[2][element] = 0xBBBB_BBBB << 32 | b;
+    }
+    quotients.registers[3] = [0x3333_3333_3333_3333; 64];
+    let divisions = [
+        one(0xAC, 0x2123, 0),
+        one(0xAC, 0x0124, 0),
+        one(0xAD, 0x2025, 0x4080),
+        one(0xAC, 0xE316, 0),
+        one(0xAD, 0x8020, 0),
+    ];
     vec![
         ("example_1", good.clone()),
         ("example_12", input(&example_12, &[one(0x80, 0x2123, 0), one(0x80, 0x2451, 0)])),
         ("sixteen", input(&mixed, &all_sixteen)),
+        ("division", input(&quotients, &divisions)),
         ("no_records", input(&example_1, &[])),
         ("bad_file", with(16 * 77 + 2, 1)),
         ("short_file", good[..FILE_BYTES - 3].to_vec()),
