@@ -10,10 +10,10 @@ use lib.Pow.{pow-add, pow-pos}
 use borrow.Author.Tests.{eq-eqb, ne-eqb, eqb-true, eqb-false}
 use Rattle.floating.specs.declared.Outcome.the-variants.{Word}
 use Rattle.floating.specs.Format.{Format, F, signOf, exponentOf, significandOf, isReserved}
-use Rattle.floating.specs.Exact.{Exact, sizeOf, valueOf, times}
+use Rattle.floating.specs.Exact.{sizeOf, valueOf, times}
 use Rattle.floating.specs.Round.{near}
 use Rattle.floating.specs.Delivered.{delivered}
-use Rattle.floating.specs.Operations.{answered, both, product}
+use Rattle.floating.specs.Operations.{answered, product}
 use Rattle.floating.specs.Steps.{Normal, settled}
 use Rattle.floating.proofs.Rounding.{normal-64}
 use Rattle.floating.proofs.Delivering.{delivered-zero, delivered-near}
@@ -63,17 +63,13 @@ sign-chosen a b s t r hs ht hr = go (eqb s t) refl hr
     go true e h = let g : s ≡ t = eqb-true s t e in (omega arith, omega arith)
     go false e h = let g : (s ≡ t → ⊥) = eqb-false s t e in (omega (arith, g), omega arith)
 
--- one of the two is zero or reserved, and what is delivered of numbers is zero
-pub rare-both : (op : Exact → Exact → Exact) (a b : ℕ) (p q : Bool) (v y : ℕ) → ((p || q) ≡ false → Word 0 ≡ delivered F (op (valueOf F a) (valueOf F b))) → p ≡ isReserved F a → q ≡ isReserved F b → v ≡ cond (p || q) 0x8004 0 → y ≡ cond (p || q) 4 0 → (exc : Bool) → record { value = v; types = y } ≡ answered exc (both F op a b)
-rare-both op a b p q v y h hp hq hv hy exc =
+pub rare-product : (a b : ℕ) (p q : Bool) (v y : ℕ) → ((exponentOf F a ≡ 0 → ⊥) → exponentOf F b ≡ 0) → p ≡ isReserved F a → q ≡ isReserved F b → v ≡ cond (p || q) 0x8004 0 → y ≡ cond (p || q) 4 0 → (exc : Bool) → record { value = v; types = y } ≡ answered exc (product F a b)
+rare-product a b p q v y h hp hq hv hy exc =
     ap (λ (z : ℕ). record { value = z; types = y }) hv ∙ ap (λ (z : ℕ). record { value = cond (p || q) 0x8004 0; types = z }) hy ∙ go (p || q) refl
   where
-    go : (t : Bool) → (p || q) ≡ t → record { value = cond t 0x8004 0; types = cond t 4 0 } ≡ answered exc (both F op a b)
-    go true e = answer-reserved exc (both F op a b) (refused (isReserved F a) (isReserved F b) p q (delivered F (op (valueOf F a) (valueOf F b))) hp hq e)
-    go false e = answer-word exc (both F op a b) 0 (h e ∙ passed (isReserved F a) (isReserved F b) p q (delivered F (op (valueOf F a) (valueOf F b))) hp hq e)
-
-pub rare-product : (a b : ℕ) (p q : Bool) (v y : ℕ) → ((exponentOf F a ≡ 0 → ⊥) → exponentOf F b ≡ 0) → p ≡ isReserved F a → q ≡ isReserved F b → v ≡ cond (p || q) 0x8004 0 → y ≡ cond (p || q) 4 0 → (exc : Bool) → record { value = v; types = y } ≡ answered exc (product F a b)
-rare-product a b p q v y h = rare-both times a b p q v y (λ _. no-product F a b h)
+    go : (t : Bool) → (p || q) ≡ t → record { value = cond t 0x8004 0; types = cond t 4 0 } ≡ answered exc (product F a b)
+    go true e = answer-reserved exc (product F a b) (refused (isReserved F a) (isReserved F b) p q (delivered F (times (valueOf F a) (valueOf F b))) hp hq e)
+    go false e = answer-word exc (product F a b) 0 (no-product F a b h ∙ passed (isReserved F a) (isReserved F b) p q (delivered F (times (valueOf F a) (valueOf F b))) hp hq e)
 
 pub product-settled : (a b s z ea eb ma mb x y m : ℕ) → s ≡ (signOf F a + signOf F b) % 2 → ea ≡ exponentOf F a → eb ≡ exponentOf F b → (exponentOf F a ≡ 0 → ⊥) → (exponentOf F b ≡ 0 → ⊥) → ma ≡ significandOf F a → mb ≡ significandOf F b → x ≡ ma * mb → 9223372036854775808 ≤ x * 2 ^ z → x * 2 ^ z < 18446744073709551616 → y ≡ x * 2 ^ z → m ≡ near y 1099511627776 → settled F s (ea + eb - (112 + z)) m ≡ product F a b
 product-settled a b s z ea eb ma mb x y m hs hea heb na nb hma hmb hx lo hi hy hm =

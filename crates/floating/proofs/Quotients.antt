@@ -1,34 +1,28 @@
 -- The quotient of two words, from the whole part of the quotient of their significands. Over the format. Assumes nothing.
-use mathlib.Core.Path.{_≡_, refl, sym, ap, _∙_}
-use mathlib.Core.Bool.{Bool, true, false, cond, _&&_, _||_}
+use mathlib.Core.Path.{_≡_, refl, sym, ap, ap₂, _∙_}
+use mathlib.Core.Bool.{Bool, true, false, cond, _&&_}
 use Prim.Native.Nat.{ℕ, _+_, _-_, _*_, _/_, _%_, _^_, _≤_, _<_}
 use native.Mathlib.Nat.{zero-mul, mul-one, mul-comm, mul-assoc, mul-left-comm, mul-pos, le-trans, le-of-eq, lt-of-le-of-lt, le-div-iff-mul-le, div-lt-iff-lt-mul, mod-lt}
 use native.Mathlib.Omega.{arith}
 use lib.Dec.{eqb, ltb, lit<}
 use lib.Pow.{pow-add, pow-pos}
 use borrow.Author.Tests.{ne-eqb, eqb-true, eqb-false, ltb-true, ltb-false}
+use Rattle.floating.specs.declared.Answer.{Answer}
 use Rattle.floating.specs.declared.Outcome.{Outcome}
-use Rattle.floating.specs.declared.Outcome.the-variants.{Word, DivisionByZero, ReservedByZero}
+use Rattle.floating.specs.declared.Outcome.the-variants.{Word, Reserved, DivisionByZero, ReservedByZero}
 use Rattle.floating.specs.Format.{Format, F, signOf, exponentOf, significandOf, isZero, isReserved}
 use Rattle.floating.specs.Exact.{sizeOf, valueOf, over}
 use Rattle.floating.specs.Round.{near}
 use Rattle.floating.specs.Delivered.{delivered}
 use Rattle.floating.specs.Operations.{answered, both, quotient}
-use Rattle.floating.specs.Steps.{Normal, settled}
+use Rattle.floating.specs.Steps.{Normal, settled, rareType}
 use Rattle.floating.proofs.Rounding.{floor-normal, floor-near}
 use Rattle.floating.proofs.Delivering.{delivered-zero, delivered-near}
 use Rattle.floating.proofs.Refusing.{passed, number-free}
-use Rattle.floating.proofs.Products.{size-none, size-fields, rare-both}
+use Rattle.floating.proofs.Products.{size-none, size-fields}
 
 -- ---- the cases of a quotient
 module _ (f : Format) (a b : ℕ) where
-  pub by-zero : (o : Outcome) → isZero f b ≡ true → o ≡ cond (isReserved f a) ReservedByZero DivisionByZero → o ≡ quotient f a b
-  by-zero o h e = e ∙ go (isReserved f a) ∙ ap (λ (z : Bool). cond (isReserved f a && z) ReservedByZero (cond z DivisionByZero (both f over a b))) (sym h)
-    where
-      go : (p : Bool) → cond p ReservedByZero DivisionByZero ≡ cond (p && true) ReservedByZero DivisionByZero
-      go true = refl
-      go false = refl
-
   pub by-number : isZero f b ≡ false → both f over a b ≡ quotient f a b
   by-number h = go (isReserved f a) ∙ ap (λ (z : Bool). cond (isReserved f a && z) ReservedByZero (cond z DivisionByZero (both f over a b))) (sym h)
     where
@@ -68,17 +62,6 @@ places-in a b u alo ahi blo bhi hu = go (ltb a b) refl hu
 pub whole-in : (n b : ℕ) → 0 < b → b * 16777216 ≤ n → n < b * 33554432 → (16777216 ≤ n / b) × (n / b < 33554432)
 whole-in n b B lo hi = (le-div-iff-mul-le B .1 (omega arith), div-lt-iff-lt-mul B .1 (omega arith))
 
-pub rare-by-zero : (a b : ℕ) (p : Bool) (v y : ℕ) → isZero F b ≡ true → p ≡ isReserved F a → v ≡ cond p 0x8006 0x8002 → y ≡ cond p 6 2 → (exc : Bool) → record { value = v; types = y } ≡ answered exc (quotient F a b)
-rare-by-zero a b p v y h hp hv hy exc =
-    ap (λ (z : ℕ). record { value = z; types = y }) hv
-    ∙ ap (λ (z : ℕ). record { value = cond p 0x8006 0x8002; types = z }) hy
-    ∙ go p
-    ∙ ap (answered exc) (by-zero F a b (cond p ReservedByZero DivisionByZero) h (ap (λ (z : Bool). cond z ReservedByZero DivisionByZero) hp))
-  where
-    go : (t : Bool) → record { value = cond t 0x8006 0x8002; types = cond t 6 2 } ≡ answered exc (cond t ReservedByZero DivisionByZero)
-    go true = refl
-    go false = refl
-
 -- what is neither zero nor reserved has an exponent
 some-number : (w : ℕ) → isZero F w ≡ false → isReserved F w ≡ false → exponentOf F w ≡ 0 → ⊥
 some-number w hz hr e = go (eqb (exponentOf F w) 0) (eqb (signOf F w) 0) (eqb (signOf F w) 1) refl refl refl hz hr
@@ -93,19 +76,42 @@ some-number w hz hr e = go (eqb (exponentOf F w) 0) (eqb (signOf F w) 0) (eqb (s
         omega (arith, n, m)
     go false y z ex ey ez p q = eqb-false (exponentOf F w) 0 ex e
 
-pub rare-quotient : (a b : ℕ) (p q : Bool) (v y : ℕ) → ((exponentOf F a ≡ 0 → ⊥) → exponentOf F b ≡ 0) → isZero F b ≡ false → p ≡ isReserved F a → q ≡ isReserved F b → v ≡ cond (p || q) 0x8004 0 → y ≡ cond (p || q) 4 0 → (exc : Bool) → record { value = v; types = y } ≡ answered exc (quotient F a b)
-rare-quotient a b p q v y h hz hp hq hv hy exc = rare-both over a b p q v y zero hp hq hv hy exc ∙ ap (answered exc) (by-number F a b hz)
-  where
-    second : (s t : Bool) → (s || t) ≡ false → t ≡ false
-    second true t e = let u : _≡_ {A = ℕ} 0 1 = cc in absurd (omega arith)
-    second false t e = e
+-- the type of an exception
+pub type-small : (z p q : Bool) → rareType z p q < 8
+type-small true true q = lit< tt
+type-small true false q = lit< tt
+type-small false p true = lit< tt
+type-small false true false = lit< tt
+type-small false false false = lit< tt
 
-    zero : (p || q) ≡ false → Word 0 ≡ delivered F (over (valueOf F a) (valueOf F b))
-    zero e = no-quotient F a b (go (eqb (exponentOf F a) 0) refl)
-      where
-        go : (t : Bool) → eqb (exponentOf F a) 0 ≡ t → exponentOf F a ≡ 0
-        go true g = eqb-true (exponentOf F a) 0 g
-        go false g = absurd (some-number b hz (sym hq ∙ second p q e) (h (eqb-false (exponentOf F a) 0 g)))
+-- as it is told
+pub type-told : (Z P Q z p q : Bool) (x y o r : ℕ) → p ≡ P → x ≡ cond p 6 2 → y ≡ cond p 4 0 → q ≡ Q → o ≡ cond q 4 y → z ≡ Z → r ≡ cond z x o → (r ≡ rareType Z P Q) × (r < 8)
+type-told Z P Q z p q x y o r hp hx hy hq ho hz hr =
+    let e : r ≡ rareType Z P Q = hr ∙ ap₂ (cond z) hx (ho ∙ ap (cond q 4) hy) ∙ ap (λ (t : Bool). rareType z t q) hp ∙ ap₂ (λ (t u : Bool). rareType t P u) hz hq in
+    (e, lt-of-le-of-lt (le-of-eq e) (type-small Z P Q))
+
+-- the word of an exception of a type, or zero
+abbrev excepted : ℕ → Answer
+excepted t = record { value = cond (eqb t 0) 0 (0x8000 + t); types = t }
+
+-- one of the two is zero or reserved; with no exception the dividend is zero and the divisor a number
+pub rare-quotient : (a b t v : ℕ) → ((exponentOf F a ≡ 0 → ⊥) → exponentOf F b ≡ 0) → t ≡ rareType (isZero F b) (isReserved F a) (isReserved F b) → v ≡ cond (eqb t 0) 0 (0x8000 + t) → (exc : Bool) → record { value = v; types = t } ≡ answered exc (quotient F a b)
+rare-quotient a b t v h ht hv exc =
+    ap (λ (z : ℕ). record { value = z; types = t }) hv
+    ∙ ap excepted ht
+    ∙ cases (isZero F b) (isReserved F a) (isReserved F b) (delivered F (over (valueOf F a) (valueOf F b))) (λ hz _ hq. no-quotient F a b (dividend hz hq (eqb (exponentOf F a) 0) refl))
+  where
+    cases : (z p q : Bool) (o : Outcome) → (z ≡ false → p ≡ false → q ≡ false → Word 0 ≡ o) → excepted (rareType z p q) ≡ answered exc (cond (p && z) ReservedByZero (cond z DivisionByZero (cond p Reserved (cond q Reserved o))))
+    cases true true q o h = refl
+    cases true false q o h = refl
+    cases false true true o h = refl
+    cases false true false o h = refl
+    cases false false true o h = refl
+    cases false false false o h = ap (answered exc) (h refl refl refl)
+
+    dividend : isZero F b ≡ false → isReserved F b ≡ false → (t : Bool) → eqb (exponentOf F a) 0 ≡ t → exponentOf F a ≡ 0
+    dividend hz hq true g = eqb-true (exponentOf F a) 0 g
+    dividend hz hq false g = absurd (some-number b hz hq (h (eqb-false (exponentOf F a) 0 g)))
 
 pub quotient-settled : (a b s u ea eb ma mb x m : ℕ) → s ≡ (signOf F a + signOf F b) % 2 → ea ≡ exponentOf F a → eb ≡ exponentOf F b → (exponentOf F a ≡ 0 → ⊥) → (exponentOf F b ≡ 0 → ⊥) → ma ≡ significandOf F a → mb ≡ significandOf F b → 0 < mb → x ≡ ma * 2 ^ u / mb → 16777216 ≤ x → x < 33554432 → m ≡ near x 2 → settled F s (ea + 153 - (eb + u)) m ≡ quotient F a b
 quotient-settled a b s u ea eb ma mb x m hs hea heb na nb hma hmb B hx lo hi hm =

@@ -1,7 +1,7 @@
 -- What the functions inside the crate hand each other. Definitions only.
 use Prim.Native.Nat.{ℕ, _+_, _-_, _*_, _/_, _%_, _^_, _≤_, _<_}
 use mathlib.Core.Path.{_≡_}
-use mathlib.Core.Bool.{cond}
+use mathlib.Core.Bool.{Bool, cond}
 use lib.Dec.{eqb, ltb}
 use lib.Ieee.{Float, binary64, toBits}
 use lib.Ieee.Exact.{HasValue}
@@ -43,6 +43,10 @@ combined f a t b =
     cond (isReserved f a) Reserved
     (cond (isReserved f b) Reserved
     (delivered f (together (signOf f a) (sizeOf f a) t (sizeOf f b) (2 ^ (f .bits + f .excess)))))
+
+-- the type of the exception of a quotient, where the divisor is zero, the dividend reserved, the divisor reserved; 0 for none
+abbrev pub rareType : Bool → Bool → Bool → ℕ
+rareType zero reserved by-reserved = cond zero (cond reserved 6 2) (cond by-reserved 4 (cond reserved 4 0))
 
 -- num / den has p digits in its whole part at least
 abbrev pub Enough : ℕ → ℕ → ℕ → Type 0

@@ -7,9 +7,10 @@ use crate::word;
 ghost use mathlib.Core.Path.{_≡_};
 ghost use mathlib.Core.Bool.{Bool, true};
 ghost use Prim.Native.Nat.{_*_, _/_, _^_, _<_, _≤_};
-ghost use Rattle.floating.specs.Format.{F, isRare};
+ghost use Rattle.floating.specs.Format.{F, isZero, isReserved, isRare};
 ghost use Rattle.floating.specs.Round.{near};
 ghost use Rattle.floating.specs.Operations.{answered, quotient};
+ghost use Rattle.floating.specs.Steps.{rareType};
 
 // How many places a dividend is moved up for the whole part of the quotient to have 25 digits.
 fn places_up(a: u64, b: u64) -> u32
@@ -36,22 +37,26 @@ fn nearest(x: u64) -> u32
     ((x + 1) / 2) as u32
 }
 
-// One of the two is zero or reserved.
+// The type of the exception where one of the two is zero or reserved; 0 where zero is divided by a number, which makes none.
+fn rare_type(a: u32, b: u32) -> u32
+    ensures { λ r. ⌜ (r ≡ rareType (isZero F b) (isReserved F a) (isReserved F b)) × (r < 8) ⌝ }
+{
+    let reserved = word::is_reserved(a);
+    let by_zero = word::chosen(reserved, 6, 2);
+    let by_number = word::chosen(reserved, 4, 0);
+    let other = word::chosen(word::is_reserved(b), 4, by_number);
+    word::chosen(word::is_zero(b), by_zero, other)
+}
+
+// One of the two is zero or reserved: 00008000 plus the type, or zero.
 fn divide_rare(a: u32, b: u32) -> Answer
     requires { ⌜ isRare F a b ≡ true ⌝ }
     ensures { λ r. ⌜ ((exc : Bool) → r ≡ answered exc (quotient F a b)) ⌝ }
 {
-    if word::is_zero(b) {
-        let reserved = word::is_reserved(a);
-        return Answer {
-            value: word::chosen(reserved, 0x8006, 0x8002),
-            types: word::chosen(reserved, 6, 2),
-        };
-    }
-    let reserved = word::is_reserved(a) | word::is_reserved(b);
+    let t = rare_type(a, b);
     Answer {
-        value: word::chosen(reserved, 0x8004, 0),
-        types: word::chosen(reserved, 4, 0),
+        value: word::chosen(t == 0, 0, 0x8000 + t),
+        types: t,
     }
 }
 

@@ -12,7 +12,7 @@ use Rattle.element.specs.declared.Out.{Out}
 use Rattle.element.specs.Receives.{resultOf}
 use Rattle.element.specs.Groups.{coded, shortWork}
 use Rattle.element.proofs.Codes.{NoneOf, valueNumbers, is-idle}
-use Rattle.machine.specs.Loops.{operandAt, Lanes, landed, laneWorked, laneRegister, laneStep, oneAt, shortAt, convertAt, workAt}
+use Rattle.machine.specs.Loops.{operandAt, Lanes, landed, laneGiven, laneWorked, laneRegister, laneStep, oneAt, shortAt, convertAt, workAt}
 use Rattle.state.specs.Elements.{at}
 
 module _ (w : ℕ → ℕ → ℕ → ℕ → Out) (scalar : Bool) (x va vb vc : ℕ) where
@@ -24,7 +24,7 @@ module _ (w : ℕ → ℕ → ℕ → ℕ → Out) (scalar : Bool) (x va vb vc :
   -- works that are alike
   module _ (v : ℕ → ℕ → ℕ → ℕ → Out) (same : (i a b c : ℕ) → w i a b c ≡ v i a b c) where
     like : (i : ℕ) (s : Lanes) → laneStep w scalar x va vb vc i s ≡ laneStep v scalar x va vb vc i s
-    unfolding laneStep laneWorked
+    unfolding laneStep laneGiven laneWorked
     like i s = ap (landed vc i s) (same i (operandAt scalar x va (s .elements) i) (at (s .elements) vb i) (at (s .elements) vc i))
 
     by-set : (which : ℕ) (s₀ s : Lanes) → s ≡ rising (ofOnes (laneStep w scalar x va vb vc) which) 64 s₀ → s ≡ rising (ofOnes (laneStep v scalar x va vb vc) which) 64 s₀
@@ -47,17 +47,25 @@ module _ (w : ℕ → ℕ → ℕ → ℕ → Out) (x va vb vc which : ℕ) (s�
 -- what element i receives of its operands, as they were fetched
 module _ (w : ℕ → ℕ → ℕ → ℕ → Out) (vb vc i a : ℕ) (s s′ : Lanes) where
   pub lands : (b c : ℕ) (o : Out) → b ≡ at (s .elements) vb i → c ≡ at (s .elements) vc i → o ≡ w i a b c → s′ ≡ landed vc i s o → s′ ≡ laneWorked w a vb vc i s
-  unfolding laneWorked
+  unfolding laneGiven laneWorked
   lands b c o hb hc ho e = e ∙ ap (landed vc i s) ho ∙ ap₂ (λ (y z : ℕ). landed vc i s (w i a y z)) hb hc
+
+  pub of-given : (b : ℕ) → b ≡ at (s .elements) vb i → s′ ≡ laneGiven w a b vc i s → s′ ≡ laneWorked w a vb vc i s
+  unfolding laneWorked
+  of-given b hb e = e ∙ ap (λ (y : ℕ). laneGiven w a y vc i s) hb
 
   pub of-register : (va : ℕ) → a ≡ at (s .elements) va i → s′ ≡ laneWorked w a vb vc i s → s′ ≡ laneRegister w va vb vc i s
   unfolding laneRegister
   of-register va ha e = e ∙ ap (λ (y : ℕ). laneWorked w y vb vc i s) ha
 
+pub lands-given : (w : ℕ → ℕ → ℕ → ℕ → Out) (a b vc i : ℕ) (s s′ : Lanes) (c : ℕ) (o : Out) → c ≡ at (s .elements) vc i → o ≡ w i a b c → s′ ≡ landed vc i s o → s′ ≡ laneGiven w a b vc i s
+unfolding laneGiven
+lands-given w a b vc i s s′ c o hc ho e = e ∙ ap (landed vc i s) (ho ∙ ap (w i a b) hc)
+
 -- a short work of one element, where matches says that its mask bit is MTF
 module _ (code : ℕ) (exc : Bool) (mask : ℕ) (scalar : Bool) (x va vb vc i a : ℕ) (matches : Bool) (s s′ : Lanes) where
   pub short-works : matches ≡ bit mask i → a ≡ operandAt scalar x va (s .elements) i → s′ ≡ laneWorked (oneAt code exc matches) a vb vc i s → s′ ≡ laneStep (shortAt code exc mask) scalar x va vb vc i s
-  unfolding laneWorked
+  unfolding laneGiven laneWorked
   short-works m e f =
       works (shortAt code exc mask) scalar x va vb vc i a s s′ e
       (f ∙ ap (λ (t : Bool). landed vc i s (resultOf (shortWork code) exc 0 t a (at (s .elements) vb i) (at (s .elements) vc i))) m)
@@ -98,5 +106,5 @@ module _ (code : ℕ) (exc : Bool) (field mask : ℕ) (scalar : Bool) (x va vb v
 -- convert, which has no first operand
 pub convert-chosen : (exc : Bool) (field mask : ℕ) (scalar : Bool) (x va vb vc which : ℕ) (s₀ s : Lanes) → s ≡ rising (ofOnes (laneWorked (convertAt exc field) 0 vb vc) which) 64 s₀
     → s ≡ rising (ofOnes (laneStep (workAt 14 exc field mask) scalar x va vb vc) which) 64 s₀
-unfolding laneStep laneWorked resultOf coded
+unfolding laneStep laneGiven laneWorked resultOf coded
 convert-chosen exc field mask scalar x va vb vc which s₀ s e = e ∙ ones-alike (laneWorked (convertAt exc field) 0 vb vc) (laneStep (workAt 14 exc field mask) scalar x va vb vc) which 64 s₀ (λ i y _. refl)

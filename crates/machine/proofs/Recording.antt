@@ -14,7 +14,7 @@ use Rattle.opcodes.specs.declared.Work.{Work}
 use Rattle.opcodes.specs.declared.Work.the-variants.{AddLongword, SubtractLongword, MultiplyLongword, BitSet, ExclusiveOr, BitClear, ShiftRight, ShiftLeft, Iota, Merge}
 use Rattle.element.specs.Receives.{quiet, resultOf}
 use Rattle.element.specs.Groups.{shortWork}
-use Rattle.machine.specs.Loops.{operandAt, Lanes, lanes, landed, laneWorked, laneStep, shortAt}
+use Rattle.machine.specs.Loops.{operandAt, Lanes, lanes, landed, laneGiven, laneWorked, laneStep, shortAt}
 
 -- what holds of each of a list, and of what stands for none
 abbrev Each : (Work → Type 0) → List Work → Type 0
@@ -43,7 +43,7 @@ module _ (code mask : ℕ) (scalar : Bool) (x va vb vc : ℕ) where
   turn exc = laneStep (shortAt code exc mask) scalar x va vb vc
 
   gates : (exc : Bool) (i : ℕ) (s : Lanes) → gatedBy exc (turn true i s) ≡ turn exc i (gatedBy exc s)
-  unfolding laneStep laneWorked
+  unfolding laneStep laneGiven laneWorked
   gates true i s = refl
   gates false i s =
       sym (ap (landed vc i (lanes (s .elements) 0)) (without-exc code (bit mask i) (operandAt scalar x va (s .elements) i) (at (s .elements) vb i) (at (s .elements) vc i)))

@@ -25,7 +25,7 @@ use Rattle.machine.specs.Kind.{kindOf, isCompare, isIota}
 use Rattle.machine.specs.Run.{Run, run, progress, withVmr, withVcr, gathered}
 use Rattle.machine.specs.Step.{first, received, registerBit, notes, written, recorded, worked}
 use Rattle.machine.specs.Iota.{iotaStep}
-use Rattle.machine.specs.Loops.{matched, Lanes, lanes, laneWorked, laneStep, workAt, effected, doneFor}
+use Rattle.machine.specs.Loops.{matched, Lanes, lanes, laneGiven, laneWorked, laneStep, workAt, effected, doneFor}
 use Rattle.machine.proofs.Gather.{gathered-twice, gathered-none, notes-or}
 
 -- a one of the mask or its complement is a bit that is MTF
@@ -76,7 +76,7 @@ module _ (ins : Instruction) (x which : ℕ) (l : List ℕ) (p : Progress) (word
       writes v = rw no-compare
 
       one : joined (lane i s) ≡ worked ins x i (joined s)
-      unfolding worked laneStep laneWorked
+      unfolding worked laneStep laneGiven laneWorked
       one =
           sym
           (ap (λ (o : Out). recorded (notes (registerBit (isCompare (kindOf (ins .work))) (ins .vc .0)) (o .types)) (written ins i (o .value) (joined s))) receives

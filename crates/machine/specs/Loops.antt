@@ -42,15 +42,19 @@ lanes l t = record { elements = l; types = t }
 abbrev pub landed : ℕ → ℕ → Lanes → Out → Lanes
 landed vc i s o = lanes (set (s .elements) (placeOf vc i) (o .value)) (bitOr (s .types) (o .types))
 
--- element i of vc is what w makes of a, vb's element and its own
-unfoldable pub laneWorked : (ℕ → ℕ → ℕ → ℕ → Out) → ℕ → ℕ → ℕ → ℕ → Lanes → Lanes
-laneWorked w a vb vc i s = landed vc i s (w i a (at (s .elements) vb i) (at (s .elements) vc i))
+-- element i of vc is what w makes of a, b and its own
+unfoldable pub laneGiven : (ℕ → ℕ → ℕ → ℕ → Out) → ℕ → ℕ → ℕ → ℕ → Lanes → Lanes
+laneGiven w a b vc i s = landed vc i s (w i a b (at (s .elements) vc i))
 
--- the same of va's element
+-- the same of a and vb's element
+unfoldable pub laneWorked : (ℕ → ℕ → ℕ → ℕ → Out) → ℕ → ℕ → ℕ → ℕ → Lanes → Lanes
+laneWorked w a vb vc i s = laneGiven w a (at (s .elements) vb i) vc i s
+
+-- the same of va's and vb's elements
 unfoldable pub laneRegister : (ℕ → ℕ → ℕ → ℕ → Out) → ℕ → ℕ → ℕ → ℕ → Lanes → Lanes
 laneRegister w va vb vc i s = laneWorked w (at (s .elements) va i) vb vc i s
 
--- the same of the first operand
+-- the same of the first operand and vb's element
 unfoldable pub laneStep : (ℕ → ℕ → ℕ → ℕ → Out) → Bool → ℕ → ℕ → ℕ → ℕ → ℕ → Lanes → Lanes
 laneStep w scalar x va vb vc i s = laneWorked w (operandAt scalar x va (s .elements) i) vb vc i s
 

@@ -1,6 +1,6 @@
 // Works that write elements, for the elements of a set: short works, floating sums and differences, products and quotients, and conversions. The number of a
 // short work is a constant where its loop is called: the compiler makes a loop for each. For all elements below a length the short works have loops of
-// their own. Floating sums and products have a loop with a scalar and one with a register, so that the form is chosen once for an instruction; the loops of
+// their own. Floating sums, and products and quotients, have a loop with a scalar and one with a register, so that the form is chosen once for an instruction; the loops of
 // short works name the choice at each element, and the compiler makes two of each.
 use crate::operand;
 use element;
@@ -17,7 +17,7 @@ ghost use Rattle.numbers.specs.Rising.{rising, ofOnes};
 ghost use Rattle.opcodes.specs.WorkNumbers.{workNumber};
 ghost use mathlib.Core.Bool.{true, false};
 ghost use Rattle.machine.specs.Kind.{kindOf, isCompare};
-ghost use Rattle.machine.specs.Loops.{lanes, landed, laneWorked, laneRegister, laneStep, oneAt, shortAt, totalAt, productAt, convertAt, workAt};
+ghost use Rattle.machine.specs.Loops.{lanes, landed, laneGiven, laneWorked, laneRegister, laneStep, oneAt, shortAt, totalAt, productAt, convertAt, workAt};
 
 // Element i of vc receives a result; the types that it recorded join the others.
 fn land(elements: &mut [u64; 1024], types: u64, o: Out, vc: Register, i: Element) -> u64
@@ -216,21 +216,20 @@ fn totals(
     register_totals(elements, minus, exc, va, vb, vc, which)
 }
 
-// The floating product of one element, or the quotient.
+// Element i of vc receives the floating product of a and b, or the quotient.
 fn product(
     elements: &mut [u64; 1024],
     types: u64,
     divide: bool,
     exc: bool,
     a: u64,
-    vb: Register,
+    b: u64,
     vc: Register,
     i: Element,
 ) -> u64
-    requires { ⌜ (vb .0 < 16) × (vc .0 < 16) × (i .0 < 64) ⌝ }
-    ensures { λ r. ⌜ lanes (now (elements .exit)) r ≡ laneWorked (productAt divide exc) a (vb .0) (vc .0) (i .0) (lanes (now (elements .entry)) types) ⌝ }
+    requires { ⌜ (vc .0 < 16) × (i .0 < 64) ⌝ }
+    ensures { λ r. ⌜ lanes (now (elements .exit)) r ≡ laneGiven (productAt divide exc) a b (vc .0) (i .0) (lanes (now (elements .entry)) types) ⌝ }
 {
-    let b = operand::element_of(&*elements, vb, i);
     let c = operand::element_of(&*elements, vc, i);
     land(
         elements,
@@ -258,7 +257,8 @@ fn scalar_products(
     let mut left = which;
     while left != 0 {
         let i = Element(bits::lowest(left));
-        types = product(&mut *elements, types, divide, exc, x, vb, vc, i);
+        let b = operand::element_of(&*elements, vb, i);
+        types = product(&mut *elements, types, divide, exc, x, b, vc, i);
         left = bits::without_lowest(left);
     }
     types
@@ -282,7 +282,8 @@ fn register_products(
     while left != 0 {
         let i = Element(bits::lowest(left));
         let a = operand::element_of(&*elements, va, i);
-        types = product(&mut *elements, types, divide, exc, a, vb, vc, i);
+        let b = operand::element_of(&*elements, vb, i);
+        types = product(&mut *elements, types, divide, exc, a, b, vc, i);
         left = bits::without_lowest(left);
     }
     types

@@ -1,13 +1,10 @@
-use Rattle.machine.proofs.LaneLoops.{lands}
+use Rattle.machine.proofs.LaneLoops.{lands-given}
 use borrow.Author.Needs.{needs}
 use Rattle.machine.proofs.lanes.product.Statement.{statement}
 use Rattle.machine.proofs.lanes.product.Tie as tie
 
 element-of-requires : tie.Need-element-of-requires
 element-of-requires c κs = search needs
-
-element-of-requires-2 : tie.Need-element-of-requires-2
-element-of-requires-2 c κs = search needs
 
 product-requires : tie.Need-product-requires
 product-requires c κs = search needs
@@ -16,7 +13,7 @@ land-requires : tie.Need-land-requires
 land-requires c κs = search needs
 
 returns : tie.Need-returns
-returns c = lands _ _ _ _ _ _ _ _ _ _ (c .before .before .before .before .before .element-of .ensures) (c .before .before .before .element-of2 .ensures) (c .before .product .ensures) (c .land .ensures)
+returns c = lands-given _ _ _ _ _ _ _ _ _ (c .before .before .before .element-of .ensures) (c .before .product .ensures) (c .land .ensures)
 
 pub product-spec : {M : Type 1} → statement M
-product-spec = tie.close (tie.spec element-of-requires element-of-requires-2 product-requires land-requires returns)
+product-spec = tie.close (tie.spec element-of-requires product-requires land-requires returns)

@@ -2,7 +2,7 @@ use native.Mathlib.Omega.{arith}
 use borrow.Author.Needs.{needs}
 use Rattle.numbers.proofs.SetBits.{Walk, starts-walk, ends-walk, index-below, less-left, turns-walk}
 use Rattle.machine.specs.Loops.{lanes, laneRegister, productAt}
-use Rattle.machine.proofs.LaneLoops.{of-register}
+use Rattle.machine.proofs.LaneLoops.{of-given, of-register}
 use Rattle.machine.proofs.lanes.register_products.Statement.{statement}
 use Rattle.machine.proofs.lanes.register_products.Tie as tie
 
@@ -21,17 +21,36 @@ lowest-requires c κs = search needs
 element-of-requires : tie.Need-element-of-requires Inv-loop μ-loop
 element-of-requires c κs = let b = index-below _ _ _ _ _ _ (c .before .before .before .loop .inv) (omega arith) (c .before .before .before .loop .inv .small) _ (c .before .lowest .ensures) in search needs
 
+element-of-requires-2 : tie.Need-element-of-requires-2 Inv-loop μ-loop
+element-of-requires-2 c κs =
+    let l = c .before .before in
+    let v = l .before .before .before .loop .inv in
+    let b = index-below _ _ _ _ _ _ v (omega arith) (v .small) _ (l .before .lowest .ensures) in
+    search needs
+
 product-requires : tie.Need-product-requires Inv-loop μ-loop
-product-requires c κs = let b = index-below _ _ _ _ _ _ (c .before .before .before .before .before .loop .inv) (omega arith) (c .before .before .before .before .before .loop .inv .small) _ (c .before .before .before .lowest .ensures) in search needs
+product-requires c κs =
+    let l = c .before .before .before .before in
+    let v = l .before .before .before .loop .inv in
+    let b = index-below _ _ _ _ _ _ v (omega arith) (v .small) _ (l .before .lowest .ensures) in
+    search needs
 
 without-lowest-requires : tie.Need-without-lowest-requires Inv-loop μ-loop
 without-lowest-requires c κs = search needs
 
 loop-less : tie.Need-loop-less Inv-loop μ-loop
-loop-less c = less-left _ _ _ _ _ _ (c .before .before .before .before .before .before .before .loop .inv) (omega arith) (c .before .before .before .before .before .before .before .loop .inv .small) _ (c .before .before .before .before .before .lowest .ensures) _ (c .without-lowest .ensures)
+loop-less c =
+    let l = c .before .before .before .before .before .before .before in
+    let v = l .before .before .loop .inv in
+    less-left _ _ _ _ _ _ v (omega arith) (v .small) _ (l .lowest .ensures) _ (c .without-lowest .ensures)
 
 loop-again : tie.Need-loop-again Inv-loop μ-loop
-loop-again c = turns-walk _ _ _ _ _ _ (c .before .before .before .before .before .before .before .loop .inv) (omega arith) (c .before .before .before .before .before .before .before .loop .inv .small) _ (c .before .before .before .before .before .lowest .ensures) _ (c .without-lowest .ensures) _ (of-register _ _ _ _ _ _ _ _ (c .before .before .before .element-of .ensures) (c .before .product .ensures))
+loop-again c =
+    let l = c .before .before .before .before .before .before .before in
+    let v = l .before .before .loop .inv in
+    let a = c .before .before .before .before .before .element-of .ensures in
+    let b = c .before .before .before .element-of2 .ensures in
+    turns-walk _ _ _ _ _ _ v (omega arith) (v .small) _ (l .lowest .ensures) _ (c .without-lowest .ensures) _ (of-register _ _ _ _ _ _ _ _ a (of-given _ _ _ _ _ _ _ _ b (c .before .product .ensures)))
 
 returns : tie.Need-returns Inv-loop μ-loop
 returns c = ends-walk _ _ _ _ _ _ (c .before .loop .inv) (c .loop-test .left)
@@ -45,6 +64,7 @@ register-products-spec =
     loop-holds
     lowest-requires
     element-of-requires
+    element-of-requires-2
     product-requires
     without-lowest-requires
     loop-less
