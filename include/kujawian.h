@@ -1,5 +1,6 @@
 /*
- * Kujawian: DEC's VAX vector instructions, as document 01 fixes them. The calls of libkujawian.a.
+ * Kujawian: DEC's VAX vector instructions, as document 01 fixes them, and document 02, Q-1, for
+ * division. The calls of libkujawian.a.
  *
  * Every call is total: it takes any numbers and any lengths, and ends. It returns a number of
  * document 01 and writes what stands beside that number to *beside, always: 0 where document 01
@@ -30,9 +31,10 @@
  *   control   struct kuj_control: VLR, VMR, VCR, VAER, VPSR, in the order of the saved records 1,024 to
  *             1,028. It is five 64-bit numbers in that order, without padding: an array of five is the
  *             same to every call, for a caller whose language has no such struct.
- *             Range: VLR and VCR 0 to 64; VMR any; VAER bits 0, 1, 2, 3, 5 and 16 to 31; VPSR bit 0
- *             (VEN) and bit 7 (AEX). Any other contents get 12, so a state is safe to hand in
- *             wherever it came from.
+ *             Range: VLR and VCR 0 to 64; VMR any; VAER bits 0 (floating underflow), 1 (division by
+ *             zero), 2 (reserved operand), 3 (floating overflow), 5 (integer overflow) and 16 + n (an
+ *             exception wrote Vn); VPSR bit 0 (VEN) and bit 7 (AEX). Any other contents get 12, so a
+ *             state is safe to hand in wherever it came from.
  *
  * C cuts an argument to its parameter's width and says nothing. So numbers that are tested are taken
  * wide (a register, an element and a kind in 32 bits, a new VLR or VCR in 64), and nothing is cut before
@@ -79,8 +81,9 @@ enum { KUJ_READ_BINARY64, KUJ_READ_LONGWORD, KUJ_READ_RESERVED };
 /* ---- Instructions ---- */
 
 /*
- * One instruction: the opcode's second byte (after FD), its control word and its operands. scalar is
- * read by odd operate opcodes (IOTA's stride), base by memory opcodes, stride by even memory opcodes,
+ * One instruction: the opcode's second byte (after FD; of the 256, 40 are accepted), its control word
+ * and its operands. scalar is read by odd operate opcodes, where it stands for Va (IOTA's stride; the
+ * dividend of a division, whose divisor is Vb), base by memory opcodes, stride by even memory opcodes,
  * window and origin by memory opcodes; a part that is not read may hold anything. Addresses go modulo
  * 2^32, so that a negative stride is one near 2^32.
  *

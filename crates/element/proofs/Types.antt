@@ -1,4 +1,4 @@
--- What an element records is one of VAER's own bits. Assumes nothing.
+-- The types that an element records are VAER's own bits. Assumes nothing.
 use mathlib.Core.Path.{_≡_, refl}
 use mathlib.Core.Bool.{Bool, true, false, cond, _&&_}
 use Prim.Native.Nat.{ℕ, _%_}

@@ -1,5 +1,5 @@
 -- Document 01, "Settled examples": the numbered ones, each computed from the definitions that the promises cite: 1 to 11 as calls of one instruction, 12
--- as a queue by a list. After them those of the requests of document 02. Assumes nothing.
+-- as a queue by a list. After them worked examples for the requests of document 02. Assumes nothing.
 use mathlib.Core.Path.{_≡_, refl}
 use mathlib.Core.List.{List, [], _∷_, _++_}
 use Prim.Native.Nat.{ℕ}
@@ -193,6 +193,11 @@ pub quotient-down : worksOut 0xAC 0x2123 0x41E0 0x4230 ≡ gives 0x41E0 0x4230 0
 unfolding executedOf accepted instructionOf wholeOf stepsBelow stepOf elementStep operated worked received resultOf written gathered ended notes inRange opcodeOf refused controlWordOf kindOf delivered rounded size
 quotient-down = refl
 
+-- the sign, and the high half of V3[0], which is kept
+pub quotient-negative : executedOf (state (set (holding 0xC080 0x4140) 192 0x1234567800000000) (control 1 0 1)) 0xAC 0x2123 0 0 0 [] 0 ≡ gives 0xC080 0x4140 0x12345678AAABBFAA
+unfolding executedOf accepted instructionOf wholeOf stepsBelow stepOf elementStep operated worked received resultOf written gathered ended notes inRange opcodeOf refused controlWordOf kindOf delivered rounded size
+quotient-negative = refl
+
 -- the scalar, 1, divided by V2[0], 3
 pub quotient-scalar : executedOf (state (holding 0 0x4140) (control 1 0 1)) 0xAD 0x2023 0x4080 0 0 [] 0 ≡ gives 0 0x4140 0xAAAB3FAA
 unfolding executedOf accepted instructionOf wholeOf stepsBelow stepOf elementStep operated worked received resultOf written gathered ended notes inRange opcodeOf refused controlWordOf kindOf delivered rounded size
@@ -203,7 +208,11 @@ pub quotient-overflow : worksOut 0xAC 0x2123 0xFFFF7FFF 0x0080 ≡ records 0xFFF
 unfolding executedOf accepted instructionOf wholeOf stepsBelow stepOf elementStep operated worked received resultOf written gathered ended notes inRange opcodeOf refused controlWordOf kindOf delivered rounded size
 quotient-overflow = refl
 
--- the smallest by 2: 0 without EXC, 8001 with
+-- the smallest number by 1 is still a number; by 2: 0 without EXC, 8001 with
+pub quotient-smallest : worksOut 0xAC 0x2123 0x0080 0x4080 ≡ gives 0x0080 0x4080 0x0080
+unfolding executedOf accepted instructionOf wholeOf stepsBelow stepOf elementStep operated worked received resultOf written gathered ended notes inRange opcodeOf refused controlWordOf kindOf delivered rounded size
+quotient-smallest = refl
+
 pub quotient-underflow-quiet : worksOut 0xAC 0x0123 0x0080 0x4100 ≡ gives 0x0080 0x4100 0
 unfolding executedOf accepted instructionOf wholeOf stepsBelow stepOf elementStep operated worked received resultOf written gathered ended notes inRange opcodeOf refused controlWordOf kindOf delivered rounded size
 quotient-underflow-quiet = refl

@@ -1,2 +1,2 @@
--- The settled examples.
+-- The settled examples, and those for the requests.
 pub mod Examples

@@ -1,4 +1,4 @@
--- What an element receives of an outcome, and a reserved operand, which decides first. Assumes nothing.
+-- What an element receives of an outcome, and a reserved operand, which decides first (in a quotient, after a divisor that is zero). Assumes nothing.
 use mathlib.Core.Path.{_≡_, refl, sym, ap, _∙_}
 use mathlib.Core.Bool.{Bool, true, false, cond, _&&_, _||_}
 use Prim.Native.Nat.{ℕ}

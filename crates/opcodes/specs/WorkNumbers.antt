@@ -1,5 +1,5 @@
 -- Document 01, "The forms we expect": a 256-number constant gives each opcode's work. These are its
--- numbers: 0 for a reserved opcode, and the works in the order of the table.
+-- numbers: 0 for a reserved opcode, and the works in the order of document 01's table, then division's (document 02, Q-1).
 use mathlib.Core.Bool.{Bool}
 use mathlib.Core.List.{List, [], _∷_}
 use Prim.Native.Nat.{ℕ}
