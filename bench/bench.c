@@ -413,6 +413,7 @@ static void floating(void)
     instructions("multiply", ordinary, 0xA4, EXC, VECTOR_SOURCES, 0);
     instructions("multiply, masked", ordinary, 0xA4, MOE | MTF | EXC, VECTOR_SOURCES, 0);
     instructions("divide", ordinary, 0xAC, EXC, VECTOR_SOURCES, 0);
+    instructions("divide, scalar", ordinary, 0xAD, EXC, VECTOR_SOURCES, 0);
     instructions("divide, masked", ordinary, 0xAC, MOE | MTF | EXC, VECTOR_SOURCES, 0);
     put_back = true;
     instructions("compare", ordinary, 0xC4, 0, RELATION, 0);
