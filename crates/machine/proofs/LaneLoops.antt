@@ -58,9 +58,10 @@ module _ (w : ℕ → ℕ → ℕ → ℕ → Out) (vb vc i a : ℕ) (s s′ : L
   unfolding laneRegister
   of-register va ha e = e ∙ ap (λ (y : ℕ). laneWorked w y vb vc i s) ha
 
-pub lands-given : (w : ℕ → ℕ → ℕ → ℕ → Out) (a b vc i : ℕ) (s s′ : Lanes) (c : ℕ) (o : Out) → c ≡ at (s .elements) vc i → o ≡ w i a b c → s′ ≡ landed vc i s o → s′ ≡ laneGiven w a b vc i s
-unfolding laneGiven
-lands-given w a b vc i s s′ c o hc ho e = e ∙ ap (landed vc i s) (ho ∙ ap (w i a b) hc)
+module _ (w : ℕ → ℕ → ℕ → ℕ → Out) (a b vc i : ℕ) (s s′ : Lanes) where
+  pub lands-given : (c : ℕ) (o : Out) → c ≡ at (s .elements) vc i → o ≡ w i a b c → s′ ≡ landed vc i s o → s′ ≡ laneGiven w a b vc i s
+  unfolding laneGiven
+  lands-given c o hc ho e = e ∙ ap (landed vc i s) (ho ∙ ap (w i a b) hc)
 
 -- a short work of one element, where matches says that its mask bit is MTF
 module _ (code : ℕ) (exc : Bool) (mask : ℕ) (scalar : Bool) (x va vb vc i a : ℕ) (matches : Bool) (s s′ : Lanes) where

@@ -18,7 +18,7 @@ chosen-requires c κs = search needs
 returns : tie.Need-returns
 returns c =
     let d = c .before .before in
-    rare-quotient (d .args .a) (d .args .b) _ _ (some-zero F (d .args .a) (d .args .b) (d .pre)) (c .before .rare-type .ensures .0) (c .chosen .ensures)
+    rare-quotient F (d .args .a) (d .args .b) _ _ (some-zero F (d .args .a) (d .args .b) (d .pre)) (c .before .rare-type .ensures .0) (c .chosen .ensures)
 
 pub divide-rare-spec : {M : Type 1} → statement M
 divide-rare-spec = tie.close (tie.spec rare-type-requires add-chosen chosen-requires returns)

@@ -1,5 +1,6 @@
 -- `floating::quotient::of_words` meets its contract. Assumes nothing.
 use mathlib.Core.Path.{sym, ap, _∙_}
+use lib.Dec.{lit<}
 use Rattle.floating.specs.Format.{F}
 use Rattle.floating.specs.Operations.{answered}
 use Rattle.floating.proofs.Refusing.{none-zero, rare-tested}
@@ -53,16 +54,17 @@ returns-2 : tie.Need-returns-2
 returns-2 c =
     let p = c .before .before in
     let q = p .whole-quotient .ensures in
-    let d = p .before .before .before .before .before in
-    let a = d .before .before .before .args in
-    let ea = d .before .before .exponent-of .ensures in
-    let eb = d .before .exponent-of2 .ensures in
-    let n = none-zero F (a .a) (a .b) (sym (rare-tested F (a .a) (a .b) _ _ ea eb) ∙ d .if1 .left) in
-    let ma = p .before .before .before .significand-of .ensures in
     let mb = p .before .before .significand-of2 .ensures in
+    let ma = p .before .before .before .significand-of .ensures in
     let s = p .before .before .before .before .sign-of-product .ensures .0 in
+    let d = p .before .before .before .before .before in
+    let eb = d .before .exponent-of2 .ensures in
+    let ea = d .before .before .exponent-of .ensures in
+    let a = d .before .before .before .args in
+    let n = none-zero F (a .a) (a .b) (sym (rare-tested F (a .a) (a .b) _ _ ea eb) ∙ d .if1 .left) in
+    let settles = quotient-settled F (a .a) (a .b) _ _ _ _ _ _ _ (lit< tt) (search needs) s ea (n .0) eb (n .1) ma mb in
     c .deliver .ensures
-    ∙ ap (answered (a .exc)) (quotient-settled (a .a) (a .b) _ _ _ _ _ _ _ _ s ea eb (n .0) (n .1) ma mb (search needs) (q .0) (q .1) (q .2) (c .before .nearest .ensures .0))
+    ∙ ap (answered (a .exc)) (settles _ (q .0) (q .1) (q .2) (c .before .nearest .ensures .0))
 
 pub of-words-spec : {M : Type 1} → statement M
 of-words-spec =

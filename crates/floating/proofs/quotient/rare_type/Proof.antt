@@ -33,7 +33,8 @@ returns c =
     let y = q .before in
     let x = y .before in
     let p = x .before in
-    type-told _ _ _ _ _ _ _ _ _ _ (p .is-reserved .ensures) (x .chosen .ensures) (y .chosen2 .ensures) (q .is-reserved2 .ensures) (o .chosen3 .ensures) (z .is-zero .ensures) (c .chosen4 .ensures)
+    let told = type-told _ _ _ _ _ _ (p .is-reserved .ensures) (q .is-reserved2 .ensures) (z .is-zero .ensures) in
+    told _ _ _ _ (x .chosen .ensures) (y .chosen2 .ensures) (o .chosen3 .ensures) (c .chosen4 .ensures)
 
 pub rare-type-spec : {M : Type 1} → statement M
 rare-type-spec =

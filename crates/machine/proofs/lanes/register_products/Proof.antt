@@ -7,7 +7,8 @@ use Rattle.machine.proofs.lanes.register_products.Statement.{statement}
 use Rattle.machine.proofs.lanes.register_products.Tie as tie
 
 abbrev Inv-loop : tie.InvT-loop
-Inv-loop elements₀ divide exc va vb vc which types₀ left₀ elements types left = Walk (laneRegister (productAt divide exc) (va .0) (vb .0) (vc .0)) which 64 (lanes elements₀ 0) left (lanes elements types)
+Inv-loop elements₀ divide exc va vb vc which types₀ left₀ elements types left =
+    Walk (laneRegister (productAt divide exc) (va .0) (vb .0) (vc .0)) which 64 (lanes elements₀ 0) left (lanes elements types)
 
 abbrev μ-loop : tie.MeasureT-loop
 μ-loop elements₀ divide exc va vb vc which types₀ left₀ elements types left = left
@@ -19,7 +20,10 @@ lowest-requires : tie.Need-lowest-requires Inv-loop μ-loop
 lowest-requires c κs = search needs
 
 element-of-requires : tie.Need-element-of-requires Inv-loop μ-loop
-element-of-requires c κs = let b = index-below _ _ _ _ _ _ (c .before .before .before .loop .inv) (omega arith) (c .before .before .before .loop .inv .small) _ (c .before .lowest .ensures) in search needs
+element-of-requires c κs =
+    let v = c .before .before .before .loop .inv in
+    let b = index-below _ _ _ _ _ _ v (omega arith) (v .small) _ (c .before .lowest .ensures) in
+    search needs
 
 element-of-requires-2 : tie.Need-element-of-requires-2 Inv-loop μ-loop
 element-of-requires-2 c κs =
@@ -50,7 +54,8 @@ loop-again c =
     let v = l .before .before .loop .inv in
     let a = c .before .before .before .before .before .element-of .ensures in
     let b = c .before .before .before .element-of2 .ensures in
-    turns-walk _ _ _ _ _ _ v (omega arith) (v .small) _ (l .lowest .ensures) _ (c .without-lowest .ensures) _ (of-register _ _ _ _ _ _ _ _ a (of-given _ _ _ _ _ _ _ _ b (c .before .product .ensures)))
+    let turn = of-register _ _ _ _ _ _ _ _ a (of-given _ _ _ _ _ _ _ _ b (c .before .product .ensures)) in
+    turns-walk _ _ _ _ _ _ v (omega arith) (v .small) _ (l .lowest .ensures) _ (c .without-lowest .ensures) _ turn
 
 returns : tie.Need-returns Inv-loop μ-loop
 returns c = ends-walk _ _ _ _ _ _ (c .before .loop .inv) (c .loop-test .left)

@@ -7,7 +7,8 @@ use Rattle.machine.proofs.lanes.scalar_products.Statement.{statement}
 use Rattle.machine.proofs.lanes.scalar_products.Tie as tie
 
 abbrev Inv-loop : tie.InvT-loop
-Inv-loop elements₀ divide exc x vb vc which types₀ left₀ elements types left = Walk (laneWorked (productAt divide exc) x (vb .0) (vc .0)) which 64 (lanes elements₀ 0) left (lanes elements types)
+Inv-loop elements₀ divide exc x vb vc which types₀ left₀ elements types left =
+    Walk (laneWorked (productAt divide exc) x (vb .0) (vc .0)) which 64 (lanes elements₀ 0) left (lanes elements types)
 
 abbrev μ-loop : tie.MeasureT-loop
 μ-loop elements₀ divide exc x vb vc which types₀ left₀ elements types left = left
@@ -19,7 +20,10 @@ lowest-requires : tie.Need-lowest-requires Inv-loop μ-loop
 lowest-requires c κs = search needs
 
 element-of-requires : tie.Need-element-of-requires Inv-loop μ-loop
-element-of-requires c κs = let b = index-below _ _ _ _ _ _ (c .before .before .before .loop .inv) (omega arith) (c .before .before .before .loop .inv .small) _ (c .before .lowest .ensures) in search needs
+element-of-requires c κs =
+    let v = c .before .before .before .loop .inv in
+    let b = index-below _ _ _ _ _ _ v (omega arith) (v .small) _ (c .before .lowest .ensures) in
+    search needs
 
 product-requires : tie.Need-product-requires Inv-loop μ-loop
 product-requires c κs =
@@ -41,7 +45,9 @@ loop-again : tie.Need-loop-again Inv-loop μ-loop
 loop-again c =
     let l = c .before .before .before .before .before in
     let v = l .before .before .loop .inv in
-    turns-walk _ _ _ _ _ _ v (omega arith) (v .small) _ (l .lowest .ensures) _ (c .without-lowest .ensures) _ (of-given _ _ _ _ _ _ _ _ (c .before .before .before .element-of .ensures) (c .before .product .ensures))
+    let b = c .before .before .before .element-of .ensures in
+    let turn = of-given _ _ _ _ _ _ _ _ b (c .before .product .ensures) in
+    turns-walk _ _ _ _ _ _ v (omega arith) (v .small) _ (l .lowest .ensures) _ (c .without-lowest .ensures) _ turn
 
 returns : tie.Need-returns Inv-loop μ-loop
 returns c = ends-walk _ _ _ _ _ _ (c .before .loop .inv) (c .loop-test .left)
