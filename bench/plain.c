@@ -122,7 +122,7 @@ INLINE uint32_t f_multiply(uint32_t a, uint32_t b, bool exc, uint32_t *types)
 }
 
 /* a / b where either is no number: a zero divisor goes first, a reserved dividend beside it or not. */
-INLINE uint32_t f_quotient_of_none(uint32_t a, uint32_t b, uint32_t *types)
+INLINE uint32_t f_divide_rare(uint32_t a, uint32_t b, uint32_t *types)
 {
     uint32_t recorded = 0;
     if (f_exponent(b) == 0 && !f_sign(b))
@@ -139,7 +139,7 @@ INLINE uint32_t f_divide(uint32_t a, uint32_t b, bool exc, uint32_t *types)
     b = turned(b);
     const uint32_t ea = f_exponent(a), eb = f_exponent(b);
     if (__builtin_expect(ea == 0 || eb == 0, 0))
-        return f_quotient_of_none(a, b, types);
+        return f_divide_rare(a, b, types);
     /* 25 or 26 bits: 24 and the one that rounds; only the floor of the exact size matters to rounding. */
     const uint64_t quotient = (f_significand(a) << 25) / f_significand(b);
     const unsigned shorter = !(quotient >> 25);

@@ -435,7 +435,7 @@ mod tests {
         assert_eq!(F.divide(0x4080, 0x0001_4080, true), f(0xFFFE_407F, 0));
     }
 
-    /// Every quotient of a narrow format, by the plain definition: no number of the format is nearer, of two
+    /// Quotients of a narrow format, by the plain definition: no number of the format is nearer, of two
     /// equally near the greater size is given, and the ends of the range are where document 01 has them.
     #[test]
     fn quotients_of_a_narrow_format() {

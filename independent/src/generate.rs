@@ -764,7 +764,7 @@ mod tests {
             let (digits, rest) = ((sa << places) / sb, (sa << places) % sb);
             assert!(digits >> 24 == 1);
             let exponent = i64::from(ea) - i64::from(eb) + if sa < sb { 128 } else { 129 };
-            // With a remainder of 1, or 1 short of b, it cannot be nearer; near a number both are 2, as all else is even.
+            // With a remainder of 1, or 1 short of b, it cannot be nearer; next to a number it is 2, or 2 short of b.
             found.insert(match (digits % 2, rest, sb - rest) {
                 (0, 0, _) => "exact",
                 (0, 2, _) => "just above a number",

@@ -18,7 +18,7 @@ use Rattle.floating.specs.Steps.{turned, packed, wholeBy, StandsFor}
 use Rattle.floating.proofs.Arithmetic.{pow-two}
 use Rattle.floating.proofs.Rounding.{normal-64}
 use Rattle.floating.proofs.Delivering.{delivered-zero, delivered-near}
-use Rattle.floating.proofs.Products.{size-none, size-some}
+use Rattle.floating.proofs.Products.{size-none, size-fields}
 use Rattle.floating.proofs.Packing.{settled-word}
 use Rattle.floating.proofs.Refusing.{number-free}
 
@@ -165,7 +165,7 @@ module _ (exc : Bool) (w h : ℕ) (hh : h < 2) where
   module _ (r : Answer) (e m s x : ℕ) (he : e ≡ exponentOf F w) (ne : e ≡ 0 → ⊥) (hm : m ≡ significandOf F w) (hs : s ≡ signOf F w) (hr : r ≡ longword exc s x) where
     source-made : StandsFor x (wholeBy h (m * 2 ^ e) (2 ^ 152)) → r ≡ toLongword F (wholeBy h) exc w
     source-made S =
-        let z : m * 2 ^ e ≡ sizeOf F w = ap (λ (y : ℕ). y * 2 ^ e) hm ∙ ap (λ (y : ℕ). significandOf F w * 2 ^ y) he ∙ sym (size-some F w (λ y. ne (he ∙ y))) in
+        let z : m * 2 ^ e ≡ sizeOf F w = sym (size-fields F w e m he ne hm) in
         source-number F (wholeBy h) exc w r (sym (number-free F w (λ y. ne (he ∙ y))))
         (hr
         ∙ ap (λ (y : ℕ). longword exc y x) hs

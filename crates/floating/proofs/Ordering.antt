@@ -12,7 +12,7 @@ use Rattle.floating.specs.Format.{Format, F, signOf, exponentOf, fractio
 use Rattle.floating.specs.Exact.{Exact, sizeOf, valueOf, minus}
 use Rattle.floating.specs.Operations.{side, holds, compared}
 use Rattle.floating.specs.Steps.{turned, magnitude, rank, level}
-use Rattle.floating.proofs.Packing.{Sound, F-sound, exponent-lt, fraction-lt, turned-split}
+use Rattle.floating.proofs.Packing.{Sound, F-sound, sign-lt, exponent-lt, fraction-lt, turned-split}
 use Rattle.floating.proofs.Magnitude.{size-pos, zero-rank, full-rank, rank-less, rank-same}
 use Rattle.floating.proofs.Sums.{Test, same, less, more, order, signs, together-same, together-more, together-less}
 
@@ -225,11 +225,8 @@ side-found a b x y p q r la lb na nb hx hy hp hq hr = go (signs (signOf F a) (si
     ey : y ≡ signOf F b * 2147483648 + rank F b
     ey = hy ∙ level-is b lb nb
 
-    bit : (w : ℕ) → signOf F w < 2
-    bit w = mod-lt (w / 32768) (lit< tt)
-
     ranked : (k o : ℕ) → signOf F a ≡ signOf F b → p + q ≡ k → cond (eqb (signOf F a) 1) (2 - k) k ≡ o → r ≡ o
-    ranked k o e w h = by-ranks x y p q hp hq r hr (signOf F a) (signOf F b) (rank F a) (rank F b) ex ey (bit a) (bit b) (rank-lt a) (rank-lt b) k e w ∙ h
+    ranked k o e w h = by-ranks x y p q hp hq r hr (signOf F a) (signOf F b) (rank F a) (rank F b) ex ey (sign-lt F a) (sign-lt F b) (rank-lt a) (rank-lt b) k e w ∙ h
 
     twice : (s : ℕ) → s < 2 → cond (eqb s 1) 2 0 ≡ s * 2
     twice zero l = refl
@@ -246,10 +243,10 @@ side-found a b x y p q r la lb na nb hx hy hp hq hr = go (signs (signOf F a) (si
     alike false = refl
 
     go : (signOf F a ≡ signOf F b) ⊎ (signOf F a ≡ signOf F b → ⊥) → Test (rank F a) (rank F b) → r ≡ side (minus (valueOf F a) (valueOf F b))
-    go (inr n) o = by-signs x y p q hp hq r hr (signOf F a) (signOf F b) (rank F a) (rank F b) ex ey (bit a) (bit b) (rank-lt a) (rank-lt b) n ∙ sides-apart F F-sound a b (signOf F a) na nb refl (signOf F b) refl n
+    go (inr n) o = by-signs x y p q hp hq r hr (signOf F a) (signOf F b) (rank F a) (rank F b) ex ey (sign-lt F a) (sign-lt F b) (rank-lt a) (rank-lt b) n ∙ sides-apart F F-sound a b (signOf F a) na nb refl (signOf F b) refl n
     go (inl e) (same h) = ranked 1 1 e (rising-same x y p q hp hq (omega (arith, ex, ey))) (alike (eqb (signOf F a) 1)) ∙ sides-equal F F-sound a b (signOf F a) na nb refl (signOf F b) refl e (rank F a) (rank F b) refl refl h
-    go (inl e) (more h) = ranked 0 (signOf F a * 2) e (rising-more x y p q hp hq (omega (arith, ex, ey))) (twice (signOf F a) (bit a)) ∙ sides-more F F-sound a b (signOf F a) na nb refl (signOf F b) refl e (rank F a) (rank F b) refl refl h
-    go (inl e) (less h) = ranked 2 (2 - signOf F a * 2) e (rising-less x y p q hp hq (omega (arith, ex, ey))) (less-twice (signOf F a) (bit a)) ∙ sides-less F F-sound a b (signOf F a) na nb refl (signOf F b) refl e (rank F a) (rank F b) refl refl (λ z. omega arith) (le-of-lt h)
+    go (inl e) (more h) = ranked 0 (signOf F a * 2) e (rising-more x y p q hp hq (omega (arith, ex, ey))) (twice (signOf F a) (sign-lt F a)) ∙ sides-more F F-sound a b (signOf F a) na nb refl (signOf F b) refl e (rank F a) (rank F b) refl refl h
+    go (inl e) (less h) = ranked 2 (2 - signOf F a * 2) e (rising-less x y p q hp hq (omega (arith, ex, ey))) (less-twice (signOf F a) (sign-lt F a)) ∙ sides-less F F-sound a b (signOf F a) na nb refl (signOf F b) refl e (rank F a) (rank F b) refl refl (λ z. omega arith) (le-of-lt h)
 
 -- ---- the relation, and the answer
 pub holds-is : (relation o : ℕ) → relation < 8 → not (Bool·beq (eqb o (relation % 4)) (eqb (relation / 4 % 2) 1)) ≡ holds relation o

@@ -73,6 +73,9 @@ upward-twice (suc n) x h =
     ∙ ap (λ (y : ℕ). y * 65536 + x % 65536) (upward-twice n (x / 65536) less)
     ∙ div-add-mod' x 65536
 
+pub sign-lt : (f : Format) (w : ℕ) → signOf f w < 2
+sign-lt f w = mod-lt (w / 32768) (lit< tt)
+
 module _ (f : Format) (S : Sound f) where
   field : 2 ^ (15 - f .lowest) * 2 ^ (f .lowest) ≡ 32768
   field = let t = S .top in let e : 15 - f .lowest + f .lowest ≡ 15 = omega arith in sym (pow-add 2 (15 - f .lowest) (f .lowest)) ∙ ap (λ (z : ℕ). 2 ^ z) e

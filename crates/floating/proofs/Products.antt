@@ -17,7 +17,7 @@ use Rattle.floating.specs.Operations.{answered, product}
 use Rattle.floating.specs.Steps.{Normal, settled}
 use Rattle.floating.proofs.Rounding.{normal-64}
 use Rattle.floating.proofs.Delivering.{delivered-zero, delivered-near}
-use Rattle.floating.proofs.Refusing.{answer-word, answer-reserved, refused, passed, number-free}
+use Rattle.floating.proofs.Refusing.{answer-word, answer-reserved, refused, passed, numbers-passed}
 
 -- ---- the size of a word
 module _ (f : Format) (w : ℕ) where
@@ -75,7 +75,7 @@ pub product-settled : (a b s z ea eb ma mb x y m : ℕ) → s ≡ (signOf F a + 
 product-settled a b s z ea eb ma mb x y m hs hea heb na nb hma hmb hx lo hi hy hm =
     ap (λ (v : ℕ). settled F s v m) (moved (ea + eb) z)
     ∙ product-delivered F a b s z ea eb ma mb x m (lit< tt) 40 hs hea (λ v. na (sym hea ∙ v)) heb (λ v. nb (sym heb ∙ v)) hma hmb hx (normal-64 (x * 2 ^ z) lo hi) (hm ∙ ap (λ (v : ℕ). near v 1099511627776) hy)
-    ∙ passed (isReserved F a) (isReserved F b) false false (delivered F (times (valueOf F a) (valueOf F b))) (number-free F a na) (number-free F b nb) refl
+    ∙ numbers-passed F a b (delivered F (times (valueOf F a) (valueOf F b))) na nb
   where
     moved : (e z : ℕ) → e - (112 + z) ≡ 40 + e - (152 + z)
     moved e z = omega arith

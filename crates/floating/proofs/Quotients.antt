@@ -2,7 +2,7 @@
 use mathlib.Core.Path.{_≡_, refl, sym, ap, ap₂, _∙_}
 use mathlib.Core.Bool.{Bool, true, false, cond, _&&_}
 use Prim.Native.Nat.{ℕ, _+_, _-_, _*_, _/_, _%_, _^_, _≤_, _<_}
-use native.Mathlib.Nat.{zero-mul, one-mul, mul-one, mul-comm, mul-assoc, mul-left-comm, mul-pos, mod-lt, le-div-iff-mul-le, div-lt-iff-lt-mul}
+use native.Mathlib.Nat.{zero-mul, mul-one, mul-comm, mul-assoc, mul-left-comm, mul-pos, le-div-iff-mul-le, div-lt-iff-lt-mul}
 use native.Mathlib.Nat.{le-trans, le-of-eq, lt-of-le-of-lt, lt-of-lt-of-le}
 use native.Mathlib.Omega.{arith}
 use lib.Dec.{eqb, ltb, lit<}
@@ -16,19 +16,20 @@ use Rattle.floating.specs.Exact.{sizeOf, valueOf, over}
 use Rattle.floating.specs.Round.{near}
 use Rattle.floating.specs.Delivered.{delivered}
 use Rattle.floating.specs.Operations.{answered, both, quotient}
-use Rattle.floating.specs.Steps.{Normal, settled, rareType}
+use Rattle.floating.specs.Steps.{Normal, settled, rareQuotientType}
 use Rattle.floating.proofs.Arithmetic.{pow-two}
 use Rattle.floating.proofs.Rounding.{floor-normal, floor-near}
 use Rattle.floating.proofs.Delivering.{delivered-zero, delivered-near}
-use Rattle.floating.proofs.Refusing.{passed, number-free}
+use Rattle.floating.proofs.Refusing.{numbers-passed}
 use Rattle.floating.proofs.Products.{size-none, size-fields}
+use Rattle.floating.proofs.Packing.{sign-lt}
 
 -- ---- the cases of a quotient
 module _ (f : Format) (a b : ℕ) where
-  abbrev exactly : Outcome
-  exactly = delivered f (over (valueOf f a) (valueOf f b))
+  abbrev delivered-quotient : Outcome
+  delivered-quotient = delivered f (over (valueOf f a) (valueOf f b))
 
-  pub by-number : isZero f b ≡ false → both f over a b ≡ quotient f a b
+  by-number : isZero f b ≡ false → both f over a b ≡ quotient f a b
   by-number h = go (isReserved f a) ∙ ap (λ (z : Bool). cond (isReserved f a && z) ReservedByZero (cond z DivisionByZero (both f over a b))) (sym h)
     where
       go : (p : Bool) → both f over a b ≡ cond (p && false) ReservedByZero (both f over a b)
@@ -36,8 +37,8 @@ module _ (f : Format) (a b : ℕ) where
       go false = refl
 
   -- the dividend is zero
-  pub no-quotient : exponentOf f a ≡ 0 → Word 0 ≡ exactly
-  no-quotient h =
+  zero-quotient : exponentOf f a ≡ 0 → Word 0 ≡ delivered-quotient
+  zero-quotient h =
       let w = f .bits + f .excess in
       let none : sizeOf f a * 2 ^ w ≡ 0 = ap (λ (z : ℕ). z * 2 ^ w) (size-none f a h) ∙ zero-mul (2 ^ w) in
       sym (delivered-zero f (over (valueOf f a) (valueOf f b)) none)
@@ -48,7 +49,7 @@ module _ (f : Format) (a b : ℕ) where
       (hma : ma ≡ significandOf f a) (hmb : mb ≡ significandOf f b)
     where
       pub quotient-delivered : (k : ℕ) → Normal (f .bits) (ma * 2 ^ u) mb k → m ≡ near (ma * 2 ^ u) (mb * 2 ^ k)
-          → settled f s (k + (ea + (f .bits + f .excess)) - (eb + u)) m ≡ exactly
+          → settled f s (k + (ea + (f .bits + f .excess)) - (eb + u)) m ≡ delivered-quotient
       quotient-delivered k N hm =
           let w = f .bits + f .excess in
           let one : sizeOf f a ≡ ma * 2 ^ ea = size-fields f a ea ma hea (λ v. na (sym hea ∙ v)) hma in
@@ -72,7 +73,7 @@ module _ (f : Format) (a b : ℕ) where
           let rounds = floor-near (f .bits) P (ma * 2 ^ u) mb x 0 1 B hx lo N in
           ap (λ (e : ℕ). settled f s (e - (eb + u)) m) (moved ea (f .bits + f .excess))
           ∙ quotient-delivered 1 floor (hm ∙ ap (λ (v : ℕ). near v 2) same ∙ rounds)
-          ∙ passed (isReserved f a) (isReserved f b) false false exactly (number-free f a na) (number-free f b nb) refl
+          ∙ numbers-passed f a b delivered-quotient na nb
           ∙ by-number (simp (ne-eqb (exponentOf f b) 0 nb))
         where
           moved : (e w : ℕ) → e + (w + 1) ≡ 1 + (e + w)
@@ -95,14 +96,14 @@ some-number f w hz hr e = go (eqb (exponentOf f w) 0) (eqb (signOf f w) 0) (eqb 
     go true true z ex ey ez p q = let u : _≡_ {A = ℕ} 0 1 = cc in absurd (omega arith)
     go true false true ex ey ez p q = let u : _≡_ {A = ℕ} 0 1 = cc in absurd (omega arith)
     go true false false ex ey ez p q =
-        let l : signOf f w < 2 = mod-lt (w / 32768) (lit< tt) in
+        let l = sign-lt f w in
         let n = eqb-false (signOf f w) 0 ey in
         let m = eqb-false (signOf f w) 1 ez in
         omega (arith, n, m)
     go false y z ex ey ez p q = eqb-false (exponentOf f w) 0 ex e
 
 -- the type of an exception
-type-small : (z p q : Bool) → rareType z p q < 8
+type-small : (z p q : Bool) → rareQuotientType z p q < 8
 type-small true true q = lit< tt
 type-small true false q = lit< tt
 type-small false p true = lit< tt
@@ -111,10 +112,10 @@ type-small false false false = lit< tt
 
 -- as the code works it out
 module _ (Z P Q z p q : Bool) (hp : p ≡ P) (hq : q ≡ Q) (hz : z ≡ Z) where
-  pub type-told : (x y o r : ℕ) → x ≡ cond p 6 2 → y ≡ cond p 4 0 → o ≡ cond q 4 y → r ≡ cond z x o → (r ≡ rareType Z P Q) × (r < 8)
+  pub type-told : (x y o r : ℕ) → x ≡ cond p 6 2 → y ≡ cond p 4 0 → o ≡ cond q 4 y → r ≡ cond z x o → (r ≡ rareQuotientType Z P Q) × (r < 8)
   type-told x y o r hx hy ho hr =
-      let told : r ≡ rareType z p q = hr ∙ ap₂ (cond z) hx (ho ∙ ap (cond q 4) hy) in
-      let e : r ≡ rareType Z P Q = told ∙ ap (λ (t : Bool). rareType z t q) hp ∙ ap₂ (λ (t u : Bool). rareType t P u) hz hq in
+      let told : r ≡ rareQuotientType z p q = hr ∙ ap₂ (cond z) hx (ho ∙ ap (cond q 4) hy) in
+      let e : r ≡ rareQuotientType Z P Q = told ∙ ap (λ (t : Bool). rareQuotientType z t q) hp ∙ ap₂ (λ (t u : Bool). rareQuotientType t P u) hz hq in
       (e, lt-of-le-of-lt (le-of-eq e) (type-small Z P Q))
 
 -- the word of an exception of a type, or zero
@@ -127,17 +128,17 @@ module _ (f : Format) (a b t v : ℕ) (h : (exponentOf f a ≡ 0 → ⊥) → ex
   dividend hz hq true g = eqb-true (exponentOf f a) 0 g
   dividend hz hq false g = absurd (some-number f b hz hq (h (eqb-false (exponentOf f a) 0 g)))
 
-  pub rare-quotient : t ≡ rareType (isZero f b) (isReserved f a) (isReserved f b) → v ≡ cond (eqb t 0) 0 (0x8000 + t)
+  pub rare-quotient : t ≡ rareQuotientType (isZero f b) (isReserved f a) (isReserved f b) → v ≡ cond (eqb t 0) 0 (0x8000 + t)
       → (exc : Bool) → record { value = v; types = t } ≡ answered exc (quotient f a b)
   rare-quotient ht hv exc =
       ap (λ (z : ℕ). record { value = z; types = t }) hv
       ∙ ap excepted ht
-      ∙ cases (isZero f b) (isReserved f a) (isReserved f b) (exactly f a b) (λ hz _ hq. no-quotient f a b (dividend hz hq (eqb (exponentOf f a) 0) refl))
+      ∙ cases (isZero f b) (isReserved f a) (isReserved f b) (delivered-quotient f a b) (λ hz _ hq. zero-quotient f a b (dividend hz hq (eqb (exponentOf f a) 0) refl))
     where
-      chosen : (z p q : Bool) → Outcome → Outcome
-      chosen z p q o = cond (p && z) ReservedByZero (cond z DivisionByZero (cond p Reserved (cond q Reserved o)))
+      outcome : (z p q : Bool) → Outcome → Outcome
+      outcome z p q o = cond (p && z) ReservedByZero (cond z DivisionByZero (cond p Reserved (cond q Reserved o)))
 
-      cases : (z p q : Bool) (o : Outcome) → (z ≡ false → p ≡ false → q ≡ false → Word 0 ≡ o) → excepted (rareType z p q) ≡ answered exc (chosen z p q o)
+      cases : (z p q : Bool) (o : Outcome) → (z ≡ false → p ≡ false → q ≡ false → Word 0 ≡ o) → excepted (rareQuotientType z p q) ≡ answered exc (outcome z p q o)
       cases true true q o h = refl
       cases true false q o h = refl
       cases false true true o h = refl

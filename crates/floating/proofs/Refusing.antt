@@ -76,3 +76,7 @@ module _ (f : Format) (a b : ℕ) where
 -- a number is not reserved
 pub number-free : (f : Format) (w : ℕ) → (exponentOf f w ≡ 0 → ⊥) → false ≡ isReserved f w
 number-free f w n = sym (simp (ne-eqb (exponentOf f w) 0 n))
+
+-- and two numbers are passed on to the operation
+pub numbers-passed : (f : Format) (a b : ℕ) (x : Outcome) → (exponentOf f a ≡ 0 → ⊥) → (exponentOf f b ≡ 0 → ⊥) → x ≡ cond (isReserved f a) Reserved (cond (isReserved f b) Reserved x)
+numbers-passed f a b x na nb = passed (isReserved f a) (isReserved f b) false false x (number-free f a na) (number-free f b nb) refl

@@ -23,7 +23,7 @@ use Rattle.floating.proofs.Align.{none-joint, some-long}
 use Rattle.floating.proofs.Products.{size-none, size-some, size-fields}
 use Rattle.floating.proofs.Packing.{Sound, F-sound, fraction-lt, exponent-lt, magnitude-word}
 use Rattle.floating.proofs.Magnitude.{apart, at-most, sized}
-use Rattle.floating.proofs.Refusing.{passed, number-free}
+use Rattle.floating.proofs.Refusing.{passed, numbers-passed}
 
 -- a test of two numbers, with what it says
 pub data Test (a b : ℕ) : Type 0 where
@@ -250,7 +250,7 @@ module _ (f : Format) (S : Sound f) where
       ap (λ (z : ℕ). delivered f (together z (sizeAt f k) t (sizeAt f l) (2 ^ (f .bits + f .excess)))) hs
       ∙ ap (λ (z : ℕ). delivered f (together (signOf f a) z t (sizeAt f l) (2 ^ (f .bits + f .excess)))) (sized f S a k hk na)
       ∙ ap (λ (z : ℕ). delivered f (together (signOf f a) (sizeOf f a) t z (2 ^ (f .bits + f .excess)))) (sized f S b l hl nb)
-      ∙ passed (isReserved f a) (isReserved f b) false false _ (number-free f a na) (number-free f b nb) refl
+      ∙ numbers-passed f a b _ na nb
 
   -- one of the two is zero
   module _ (a t b : ℕ) (p q : Bool) (hp : p ≡ isReserved f a) (hq : q ≡ isReserved f b) (n : (p || q) ≡ false) where

@@ -44,9 +44,9 @@ combined f a t b =
     (cond (isReserved f b) Reserved
     (delivered f (together (signOf f a) (sizeOf f a) t (sizeOf f b) (2 ^ (f .bits + f .excess)))))
 
--- the type of the exception of a quotient, where the divisor is zero, the dividend reserved, the divisor reserved; 0 for none
-abbrev pub rareType : Bool → Bool → Bool → ℕ
-rareType zero reserved by-reserved = cond zero (cond reserved 6 2) (cond by-reserved 4 (cond reserved 4 0))
+-- the type of the exception of a quotient, by three tests: divisor zero, dividend reserved, divisor reserved; 0 for none
+abbrev pub rareQuotientType : Bool → Bool → Bool → ℕ
+rareQuotientType zero reserved by-reserved = cond zero (cond reserved 6 2) (cond by-reserved 4 (cond reserved 4 0))
 
 -- num / den has p digits in its whole part at least
 abbrev pub Enough : ℕ → ℕ → ℕ → Type 0

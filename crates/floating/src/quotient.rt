@@ -10,7 +10,7 @@ ghost use Prim.Native.Nat.{_*_, _/_, _^_, _<_, _≤_};
 ghost use Rattle.floating.specs.Format.{F, isZero, isReserved, isRare};
 ghost use Rattle.floating.specs.Round.{near};
 ghost use Rattle.floating.specs.Operations.{answered, quotient};
-ghost use Rattle.floating.specs.Steps.{rareType};
+ghost use Rattle.floating.specs.Steps.{rareQuotientType};
 
 // How many places a dividend is moved up for the whole part of the quotient to have 25 digits.
 fn places_up(a: u64, b: u64) -> u32
@@ -21,7 +21,7 @@ fn places_up(a: u64, b: u64) -> u32
 }
 
 // The whole part of the quotient of two significands, the dividend moved up: 25 digits, one more than are kept. No digit past these makes or unmakes a half, so
-// it decides the rounding.
+// the whole part decides the rounding.
 fn whole_quotient(a: u64, b: u64, up: u32) -> u64
     requires { ⌜ (0 < b) × (b < 16777216) × (up ≤ 25) × (b * 16777216 ≤ a * 2 ^ up) × (a * 2 ^ up < b * 33554432) ⌝ }
     ensures { λ r. ⌜ (r ≡ a * 2 ^ up / b) × (16777216 ≤ r) × (r < 33554432) ⌝ }
@@ -39,7 +39,7 @@ fn nearest(x: u64) -> u32
 
 // The type of the exception where one of the two is zero or reserved; 0 where zero is divided by a number, which makes none.
 fn rare_type(a: u32, b: u32) -> u32
-    ensures { λ r. ⌜ (r ≡ rareType (isZero F b) (isReserved F a) (isReserved F b)) × (r < 8) ⌝ }
+    ensures { λ r. ⌜ (r ≡ rareQuotientType (isZero F b) (isReserved F a) (isReserved F b)) × (r < 8) ⌝ }
 {
     let reserved = word::is_reserved(a);
     let by_zero = word::chosen(reserved, 6, 2);
@@ -77,6 +77,7 @@ pub fn of_words(exc: bool, a: u32, b: u32) -> Answer
     let mb = word::significand_of(b);
     let up = places_up(ma, mb);
     let x = whole_quotient(ma, mb, up);
+    // 153 is 24 + 128 + 1: the significant bits, the excess, and the one digit more.
     let r = deliver::deliver(exc, s, ea + 153, eb + up, nearest(x));
     Answer {
         value: r.value,

@@ -1,4 +1,4 @@
--- Document 01, "Opcodes": the table of accepted opcodes; and that of division, document 02, Q-1.
+-- Document 01, "Opcodes": the table of accepted opcodes, with division's row (document 02, Q-1).
 use mathlib.Core.Bool.{Bool, true, false, _&&_, _||_}
 use mathlib.Core.List.{List, [], _∷_}
 use Prim.Native.Nat.{ℕ, _%_}

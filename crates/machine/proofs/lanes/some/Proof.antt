@@ -121,7 +121,11 @@ returns-13 c = rw (← (c .before .before .before .before .before .before .befor
 
 returns-14 : tie.Need-returns-14
 unfolding resultOf coded
-returns-14 c = rw (← (c .before .before .before .before .before .before .before .code .ensures), c .before .before .match .keys13) (floating-chosen 21 (c .before .before .before .before .before .before .before .before .args .instruction .exc) (c .before .before .before .before .before .before .before .before .args .instruction .va .0) (c .before .before .before .before .before .before .before .before .args .mask) _ _ _ _ _ _ _ _ _ (c .products2 .ensures) (λ i a b d. refl))
+returns-14 c =
+    let d = c .before .before .before .before .before .before .before in
+    let i = d .before .args .instruction in
+    let made = floating-chosen 21 (i .exc) (i .va .0) (d .before .args .mask) _ _ _ _ _ _ _ _ _ (c .products2 .ensures) (λ i a b d. refl) in
+    rw (← (d .code .ensures), c .before .before .match .keys13) made
 
 returns-15 : tie.Need-returns-15
 returns-15 c = let n = not-compare _ (c .before .before .before .before .before .before .before .before .pre .3) in
