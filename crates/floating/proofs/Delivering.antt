@@ -1,21 +1,20 @@
 -- What a format delivers depends on the number alone, and may be worked out from any fraction that is the number up to a power of two. Over the format. Assumes nothing.
-use mathlib.Core.Path.{_≡_, sym, ap, _∙_}
+use mathlib.Core.Path.{_≡_, refl, sym, ap, _∙_}
 use mathlib.Core.Logic.{_⊎_, inl, inr}
+use mathlib.Core.Bool.{Bool, true, false}
 use Prim.Native.Nat.{ℕ, _+_, _-_, _*_, _/_, _^_, _≤_, _<_}
-use native.Mathlib.Nat.{le-trans, le-of-eq, lt-of-le-of-lt, lt-of-lt-of-le, eq-zero-or-pos, zero-mul, mul-comm, mul-assoc, mul-left-comm, mul-right-comm, mul-le-mul-left, mul-le-mul-right, mul-lt-mul-of-pos-right, mul-pos, le-of-mul-le-mul-right, lt-of-mul-lt-mul-right, eq-of-mul-eq-mul-right, div-lt-iff-lt-mul}
+use native.Mathlib.Nat.{le-trans, le-of-eq, lt-of-le-of-lt, lt-of-lt-of-le, eq-zero-or-pos, sub-zero, zero-mul, one-mul, mul-comm, mul-assoc, mul-left-comm, mul-right-comm, mul-le-mul-left, mul-le-mul-right, mul-lt-mul-of-pos-right, mul-pos, le-of-mul-le-mul-right, lt-of-mul-lt-mul-right, eq-of-mul-eq-mul-right}
 use native.Mathlib.Omega.{arith}
+use lib.Dec.{ltb}
 use lib.Pow.{pow-add, pow-pos, pow-mono}
-use lib.Ieee.{size}
-use lib.Ieee.Digits.{size-le}
-use lib.Ieee.Nearest.{div-same}
 use borrow.Author.Tests.{eq-eqb, ne-eqb, lt-ltb, le-ltb}
 use Rattle.floating.specs.declared.Outcome.the-variants.{Word, Overflow, Underflow}
 use Rattle.floating.specs.Format.{Format, wordOf}
 use Rattle.floating.specs.Exact.{Exact}
-use Rattle.floating.specs.Round.{near, places, Rounded, carried, rounded}
+use Rattle.floating.specs.Round.{near, Rounded, carried, rounded}
 use Rattle.floating.specs.Delivered.{judged, delivered}
 use Rattle.floating.specs.Steps.{Normal, settled}
-use Rattle.floating.proofs.Rounding.{places-only, rounded-at, rounded-same, near-same}
+use Rattle.floating.proofs.Rounding.{by, carried-steps, rounded-at, rounded-same, rounded-below, near-same}
 
 -- ---- N / D is n / d, up times doubled and down times halved
 module _ (p N D n d k up down : ℕ) (P : 0 < p) (DD : 0 < D) (dd : 0 < d) (E : N * (d * 2 ^ down) ≡ n * 2 ^ up * D) (M : Normal p n d k) where
@@ -28,15 +27,22 @@ module _ (p N D n d k up down : ℕ) (P : 0 < p) (DD : 0 < D) (dd : 0 < d) (E : 
   joined : n * (2 ^ up * D) ≡ N * (d * 2 ^ down)
   joined = sym (mul-assoc n (2 ^ up) D) ∙ sym E
 
-  -- below the range: no digit past p
-  none : k + up ≤ down → places p N D ≡ 0
-  none h =
-      let a : d * 2 ^ k * 2 ^ p * (2 ^ up * D) ≡ 2 ^ p * D * (d * 2 ^ (k + up)) = simp (pow-add, mul-assoc, mul-comm, mul-left-comm) in
-      let b : 2 ^ p * D * (d * 2 ^ (k + up)) ≤ 2 ^ p * D * (d * 2 ^ down) = mul-le-mul-left (2 ^ p * D) (mul-le-mul-left d (pow-mono h)) in
+  -- further below the range than a carry reaches
+  below : k + up < down → N * 2 < 2 ^ p * D
+  below h =
+      let two : 2 ≡ 2 ^ 1 = refl in
+      let a : d * 2 ^ k * 2 ^ p * (2 ^ up * D) * 2 ≡ 2 ^ p * D * (d * 2 ^ (k + up + 1)) = ap (λ (z : ℕ). d * 2 ^ k * 2 ^ p * (2 ^ up * D) * z) two ∙ simp (pow-add, mul-assoc, mul-comm, mul-left-comm) in
+      let b : 2 ^ p * D * (d * 2 ^ (k + up + 1)) ≤ 2 ^ p * D * (d * 2 ^ down) = mul-le-mul-left (2 ^ p * D) (mul-le-mul-left d (pow-mono (omega arith))) in
       let c : N * (d * 2 ^ down) < d * 2 ^ k * 2 ^ p * (2 ^ up * D) = lt-of-le-of-lt (le-of-eq (sym joined)) (mul-lt-mul-of-pos-right (M .high) U) in
-      let l : N < 2 ^ p * D = lt-of-mul-lt-mul-right (d * 2 ^ down) (lt-of-lt-of-le c (le-trans (le-of-eq a) b)) in
-      let s : size (N / D) ≤ p = size-le (N / D) p (div-lt-iff-lt-mul DD .1 l) in
-      omega arith
+      let e : N * 2 * (d * 2 ^ down) ≡ N * (d * 2 ^ down) * 2 = mul-right-comm N 2 (d * 2 ^ down) in
+      lt-of-mul-lt-mul-right (d * 2 ^ down) (lt-of-le-of-lt (le-of-eq e) (lt-of-lt-of-le (mul-lt-mul-of-pos-right c (pow-pos 1)) (le-trans (le-of-eq a) b)))
+
+  none : k + up < down → rounded p N D .exp ≡ 0
+  none h =
+      let l : N * 2 < 2 ^ p * D = below h in
+      let one : D ≤ 2 ^ p * D = le-trans (le-of-eq (sym (one-mul D))) (mul-le-mul-right D (pow-pos p)) in
+      let e : 2 ^ p * (D * 2) ≡ 2 ^ p * D * 2 = sym (mul-assoc (2 ^ p) D 2) in
+      rounded-below p N D DD (omega arith)
 
   module _ (j : ℕ) (J : j + down ≡ k + up) where
     powers : 2 ^ j * 2 ^ down ≡ 2 ^ k * 2 ^ up
@@ -66,36 +72,38 @@ module _ (p N D n d k up down : ℕ) (P : 0 < p) (DD : 0 < D) (dd : 0 < d) (E : 
     pub rounded-moved : rounded p N D ≡ carried p (near n (d * 2 ^ k)) j
     rounded-moved = rounded-at p N D P DD j normal-moved ∙ ap (λ (z : ℕ). carried p z j) near-moved
 
-    pub places-moved : places p N D ≡ j
-    places-moved = places-only p N D P DD j normal-moved
-
 -- ---- the judgement, by the tests that the code makes
-module _ (f : Format) (s k m e : ℕ) where
-  pub judged-under : k ≡ 0 → Underflow ≡ judged f s k m e
-  judged-under h = simp (eq-eqb k 0 h)
+module _ (f : Format) (s m e : ℕ) where
+  pub judged-under : e ≡ 0 → Underflow ≡ judged f s m e
+  judged-under h = simp (eq-eqb e 0 h)
 
-  pub judged-over : (k ≡ 0 → ⊥) → f .largest < e → Overflow ≡ judged f s k m e
-  judged-over h g = simp (ne-eqb k 0 h, lt-ltb (f .largest) e g)
+  pub judged-over : (e ≡ 0 → ⊥) → f .largest < e → Overflow ≡ judged f s m e
+  judged-over h g = simp (ne-eqb e 0 h, lt-ltb (f .largest) e g)
 
-  pub judged-word : (w : ℕ) → (k ≡ 0 → ⊥) → e ≤ f .largest → w ≡ wordOf f s e (m - 2 ^ (f .bits - 1)) → Word w ≡ judged f s k m e
-  judged-word w h g ew = ap Word ew ∙ sym (simp (ne-eqb k 0 h, le-ltb (f .largest) e g))
+  pub judged-word : (w : ℕ) → (e ≡ 0 → ⊥) → e ≤ f .largest → w ≡ wordOf f s e (m - 2 ^ (f .bits - 1)) → Word w ≡ judged f s m e
+  judged-word w h g ew = ap Word ew ∙ sym (simp (ne-eqb e 0 h, le-ltb (f .largest) e g))
 
 module _ (f : Format) where
   pub delivered-zero : (v : Exact) → v .num ≡ 0 → delivered f v ≡ Word 0
   unfolding delivered
   delivered-zero v h = simp (eq-eqb (v .num) 0 h)
 
-  pub delivered-some : (v : Exact) → (v .num ≡ 0 → ⊥) → delivered f v ≡ judged f (v .sign) (places (f .bits) (v .num * 2 ^ (f .bits + f .excess)) (v .den)) (rounded (f .bits) (v .num * 2 ^ (f .bits + f .excess)) (v .den) .sig) (rounded (f .bits) (v .num * 2 ^ (f .bits + f .excess)) (v .den) .exp)
+  pub delivered-some : (v : Exact) → (v .num ≡ 0 → ⊥) → delivered f v ≡ judged f (v .sign) (rounded (f .bits) (v .num * 2 ^ (f .bits + f .excess)) (v .den) .sig) (rounded (f .bits) (v .num * 2 ^ (f .bits + f .excess)) (v .den) .exp)
   unfolding delivered
   delivered-some v h = simp (ne-eqb (v .num) 0 h)
 
-  lowest : (s k m e k' m' e' : ℕ) → k ≡ 0 → k' ≡ 0 → judged f s k m e ≡ judged f s k' m' e'
-  lowest s k m e k' m' e' h h' = simp (eq-eqb k 0 h, eq-eqb k' 0 h')
+  -- only by how much e is above down counts
+  pub settled-moved : (s e down e' down' m : ℕ) → e + down' ≡ e' + down → settled f s e down m ≡ settled f s e' down' m
+  settled-moved s e down e' down' m h = go (ltb m (2 ^ f .bits))
+    where
+      go : (t : Bool) → judged f s (by t (f .bits) m e .sig) (by t (f .bits) m e .exp - down) ≡ judged f s (by t (f .bits) m e' .sig) (by t (f .bits) m e' .exp - down')
+      go true = let g : e - down ≡ e' - down' = omega arith in ap (λ (z : ℕ). judged f s m z) g
+      go false = let g : e + 1 - down ≡ e' + 1 - down' = omega arith in ap (λ (z : ℕ). judged f s (2 ^ (f .bits - 1)) z) g
 
   -- What is delivered of num / den may be worked out from n / d, where num / den * 2 ^ (bits + excess) is n / d * 2 ^ up / 2 ^ down.
   pub delivered-near : (s num den n d k m up down : ℕ) → 0 < f .bits → 0 < den → 0 < d → num * 2 ^ (f .bits + f .excess) * (d * 2 ^ down) ≡ n * 2 ^ up * den → Normal (f .bits) n d k → m ≡ near n (d * 2 ^ k)
-      → settled f s (k + up - down) m ≡ delivered f (record { sign = s; num = num; den = den })
-  delivered-near s num den n d k m up down P DD dd E M hm = sym (delivered-some (record { sign = s; num = num; den = den }) some ∙ go (eq-zero-or-pos (k + up - down)))
+      → settled f s (k + up) down m ≡ delivered f (record { sign = s; num = num; den = den })
+  delivered-near s num den n d k m up down P DD dd E M hm = go (eq-zero-or-pos (down - (k + up))) ∙ sym (delivered-some (record { sign = s; num = num; den = den }) some)
     where
       there : 0 < n * 2 ^ up * den
       there = mul-pos (mul-pos (lt-of-lt-of-le (mul-pos (mul-pos dd (pow-pos k)) (pow-pos (f .bits - 1))) (M .low)) (pow-pos up)) DD
@@ -106,16 +114,25 @@ module _ (f : Format) where
           let b : n * 2 ^ up * den ≡ 0 = sym E ∙ a in
           omega (arith, there)
 
-      go : (k + up - down ≡ 0) ⊎ (0 < k + up - down) → judged f s (places (f .bits) (num * 2 ^ (f .bits + f .excess)) den) (rounded (f .bits) (num * 2 ^ (f .bits + f .excess)) den .sig) (rounded (f .bits) (num * 2 ^ (f .bits + f .excess)) den .exp) ≡ settled f s (k + up - down) m
+      no-more : (a e : ℕ) → a ≤ e + 1 → e < down → a - down ≡ 0
+      no-more a e l h = omega arith
+
+      N : ℕ
+      N = num * 2 ^ (f .bits + f .excess)
+
+      go : (down - (k + up) ≡ 0) ⊎ (0 < down - (k + up)) → settled f s (k + up) down m ≡ judged f s (rounded (f .bits) N den .sig) (rounded (f .bits) N den .exp)
       go (inl z) =
-          let l : k + up ≤ down = omega arith in
-          lowest s _ _ _ _ _ _ (none (f .bits) (num * 2 ^ (f .bits + f .excess)) den n d k up down P DD dd E M l) z
-      go (inr h) =
           let j = k + up - down in
           let J : j + down ≡ k + up = omega arith in
-          let r : rounded (f .bits) (num * 2 ^ (f .bits + f .excess)) den ≡ carried (f .bits) m j = rounded-moved (f .bits) (num * 2 ^ (f .bits + f .excess)) den n d k up down P DD dd E M j J ∙ ap (λ (z : ℕ). carried (f .bits) z j) (sym hm) in
-          ap (λ (z : ℕ). judged f s z (rounded (f .bits) (num * 2 ^ (f .bits + f .excess)) den .sig) (rounded (f .bits) (num * 2 ^ (f .bits + f .excess)) den .exp)) (places-moved (f .bits) (num * 2 ^ (f .bits + f .excess)) den n d k up down P DD dd E M j J)
-          ∙ ap (λ (x : Rounded). judged f s j (x .sig) (x .exp)) r
+          let r : rounded (f .bits) N den ≡ carried (f .bits) m j = rounded-moved (f .bits) N den n d k up down P DD dd E M j J ∙ ap (λ (z : ℕ). carried (f .bits) z j) (sym hm) in
+          settled-moved s (k + up) down j 0 m (omega arith)
+          ∙ ap (λ (z : ℕ). judged f s (carried (f .bits) m j .sig) z) (sub-zero (carried (f .bits) m j .exp))
+          ∙ ap (λ (x : Rounded). judged f s (x .sig) (x .exp)) (sym r)
+      go (inr h) =
+          let c = carried-steps (f .bits) m (k + up) .1 in
+          let under : carried (f .bits) m (k + up) .exp - down ≡ 0 = no-more (carried (f .bits) m (k + up) .exp) (k + up) c (omega arith) in
+          sym (judged-under f s (carried (f .bits) m (k + up) .sig) (carried (f .bits) m (k + up) .exp - down) under)
+          ∙ judged-under f s (rounded (f .bits) N den .sig) (rounded (f .bits) N den .exp) (none (f .bits) N den n d k up down P DD dd E M (omega arith))
 
   -- equal fractions are delivered alike
   pub delivered-same : (s a b c d : ℕ) → 0 < b → 0 < d → a * d ≡ c * b → delivered f (record { sign = s; num = a; den = b }) ≡ delivered f (record { sign = s; num = c; den = d })
@@ -136,6 +153,5 @@ module _ (f : Format) where
           let e : a * u * d ≡ c * u * b = mul-right-comm a u d ∙ ap (λ (k : ℕ). k * u) E ∙ mul-right-comm c b u in
           let r = rounded-same (f .bits) (a * u) b (c * u) d B D e in
           delivered-some (record { sign = s; num = a; den = b }) (λ z. omega arith)
-          ∙ ap (λ (k : ℕ). judged f s (size k - f .bits) (rounded (f .bits) (a * u) b .sig) (rounded (f .bits) (a * u) b .exp)) (div-same (a * u) b (c * u) d B D e)
-          ∙ ap (λ (k : Rounded). judged f s (places (f .bits) (c * u) d) (k .sig) (k .exp)) r
+          ∙ ap (λ (k : Rounded). judged f s (k .sig) (k .exp)) r
           ∙ sym (delivered-some (record { sign = s; num = c; den = d }) (λ z. omega arith))

@@ -204,12 +204,9 @@ turned-is s e x hs he hx =
     last : (s e h l : ℕ) → l < 65536 → l * 65536 + (s * 32768 + e * 128 + h) ≡ s * 32768 + e * 128 + h + (l % 65536 * 1 + 0) * 65536
     last s e h l g = omega arith
 
-pub settled-under : (s e m : ℕ) → e ≡ 0 → Underflow ≡ settled F s e m
-settled-under s e m h = judged-under F s e (carried 24 m e .sig) (carried 24 m e .exp) h
-
-module _ (s e m k : ℕ) (E : 0 < e) (lo : 8388608 ≤ m) (hi : m ≤ 16777216) (hk : k ≡ packed F e m) where
-  told : k ≡ carried 24 m e .exp * 8388608 + (carried 24 m e .sig - 8388608)
-  told = hk ∙ carry-added 24 e m (lit< tt) E lo hi
+module _ (s e down m : ℕ) (lo : 8388608 ≤ m) (hi : m ≤ 16777216) where
+  told : packed F e m ≡ carried 24 m e .exp * 8388608 + (carried 24 m e .sig - 8388608)
+  told = carry-added 24 e m (lit< tt) lo hi
 
   below : carried 24 m e .sig - 8388608 < 8388608
   below = let b = carried-in 24 m e (lit< tt) lo in less (carried 24 m e .sig) (b .0) (b .1)
@@ -217,24 +214,41 @@ module _ (s e m k : ℕ) (E : 0 < e) (lo : 8388608 ≤ m) (hi : m ≤ 16777216) 
       less : (y : ℕ) → 8388608 ≤ y → y < 16777216 → y - 8388608 < 8388608
       less y l h = omega arith
 
-  positive : e ≡ 0 → ⊥
-  positive z = omega arith
-
-  pub settled-over : 2147483647 < k → Overflow ≡ settled F s e m
-  settled-over h = judged-over F s e (carried 24 m e .sig) (carried 24 m e .exp) positive (past (carried 24 m e .exp) (carried 24 m e .sig - 8388608) below told h)
+  pub settled-under : packed F e m < down * 8388608 + 8388608 → Underflow ≡ settled F s e down m
+  settled-under h = judged-under F s (carried 24 m e .sig) (carried 24 m e .exp - down) (short (carried 24 m e .exp) (carried 24 m e .sig - 8388608) (packed F e m) told h)
     where
-      past : (a x : ℕ) → x < 8388608 → k ≡ a * 8388608 + x → 2147483647 < k → 255 < a
-      past a x l e h = omega arith
+      short : (a x y : ℕ) → y ≡ a * 8388608 + x → y < down * 8388608 + 8388608 → a - down ≡ 0
+      short a x y e h = omega arith
 
-  pub settled-word : (w : ℕ) → s < 2 → k ≤ 2147483647 → w ≡ turned (s * 2147483648 + k) → Word w ≡ settled F s e m
-  settled-word w hs h hw =
-      let a = carried 24 m e .exp in
-      let x = carried 24 m e .sig - 8388608 in
-      let l : a ≤ 255 = within a x told in
-      judged-word F s e (carried 24 m e .sig) a w positive l (hw ∙ ap (λ (z : ℕ). turned (s * 2147483648 + z)) told ∙ turned-is s a x hs l below)
-    where
-      within : (a x : ℕ) → k ≡ a * 8388608 + x → a ≤ 255
-      within a x e = omega arith
+  -- with the magnitude k
+  module _ (k : ℕ) (hk : k + down * 8388608 ≡ packed F e m) (in-range : 8388608 ≤ k) where
+    split : k ≡ (carried 24 m e .exp - down) * 8388608 + (carried 24 m e .sig - 8388608)
+    split = parts (carried 24 m e .exp) (carried 24 m e .sig - 8388608) below (hk ∙ told)
+      where
+        parts : (a x : ℕ) → x < 8388608 → k + down * 8388608 ≡ a * 8388608 + x → k ≡ (a - down) * 8388608 + x
+        parts a x l e = omega arith
+
+    positive : carried 24 m e .exp - down ≡ 0 → ⊥
+    positive z = least (carried 24 m e .exp - down) (carried 24 m e .sig - 8388608) below split z
+      where
+        least : (a x : ℕ) → x < 8388608 → k ≡ a * 8388608 + x → a ≡ 0 → ⊥
+        least a x l e z = omega arith
+
+    pub settled-over : 2147483647 < k → Overflow ≡ settled F s e down m
+    settled-over h = judged-over F s (carried 24 m e .sig) (carried 24 m e .exp - down) positive (past (carried 24 m e .exp - down) (carried 24 m e .sig - 8388608) below split)
+      where
+        past : (a x : ℕ) → x < 8388608 → k ≡ a * 8388608 + x → 255 < a
+        past a x l e = omega arith
+
+    pub settled-word : (w : ℕ) → s < 2 → k ≤ 2147483647 → w ≡ turned (s * 2147483648 + k) → Word w ≡ settled F s e down m
+    settled-word w hs h hw =
+        let a = carried 24 m e .exp - down in
+        let x = carried 24 m e .sig - 8388608 in
+        let l : a ≤ 255 = within a x split in
+        judged-word F s (carried 24 m e .sig) a w positive l (hw ∙ ap (λ (z : ℕ). turned (s * 2147483648 + z)) split ∙ turned-is s a x hs l below)
+      where
+        within : (a x : ℕ) → k ≡ a * 8388608 + x → a ≤ 255
+        within a x e = omega arith
 
 -- ---- a word's own fields, packed
 pub magnitude-word : (s w k r : ℕ) → s < 2 → k ≡ magnitude F w → r ≡ turned (s * 2147483648 + k) → r ≡ wordOf F s (exponentOf F w) (fractionOf F w)

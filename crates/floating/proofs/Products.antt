@@ -16,7 +16,7 @@ use Rattle.floating.specs.Delivered.{delivered}
 use Rattle.floating.specs.Operations.{answered, product}
 use Rattle.floating.specs.Steps.{Normal, settled}
 use Rattle.floating.proofs.Rounding.{normal-64}
-use Rattle.floating.proofs.Delivering.{delivered-zero, delivered-near}
+use Rattle.floating.proofs.Delivering.{settled-moved, delivered-zero, delivered-near}
 use Rattle.floating.proofs.Refusing.{answer-word, answer-reserved, refused, passed, numbers-passed}
 
 -- ---- the size of a word
@@ -41,7 +41,7 @@ module _ (f : Format) (a b : ℕ) where
       go (inr p) = ap (λ (z : ℕ). sizeOf f a * z) (size-none f b (h (λ z. omega arith))) ∙ mul-zero (sizeOf f a)
 
   product-delivered : (s z ea eb ma mb x m : ℕ) → 0 < f .bits → (K : ℕ) → s ≡ (signOf f a + signOf f b) % 2 → ea ≡ exponentOf f a → (ea ≡ 0 → ⊥) → eb ≡ exponentOf f b → (eb ≡ 0 → ⊥) → ma ≡ significandOf f a → mb ≡ significandOf f b → x ≡ ma * mb → Normal (f .bits) (x * 2 ^ z) 1 K → m ≡ near (x * 2 ^ z) (1 * 2 ^ K)
-      → settled f s (K + (ea + eb) - (f .bits + f .excess + z)) m ≡ delivered f (times (valueOf f a) (valueOf f b))
+      → settled f s (K + (ea + eb)) (f .bits + f .excess + z) m ≡ delivered f (times (valueOf f a) (valueOf f b))
   product-delivered s z ea eb ma mb x m P K hs hea na heb nb hma hmb hx N hm =
       let w = f .bits + f .excess in
       let one : sizeOf f a ≡ ma * 2 ^ ea = size-fields f a ea ma hea na hma in
@@ -71,11 +71,11 @@ rare-product a b p q v y h hp hq hv hy exc =
     go true e = answer-reserved exc (product F a b) (refused (isReserved F a) (isReserved F b) p q (delivered F (times (valueOf F a) (valueOf F b))) hp hq e)
     go false e = answer-word exc (product F a b) 0 (no-product F a b h ∙ passed (isReserved F a) (isReserved F b) p q (delivered F (times (valueOf F a) (valueOf F b))) hp hq e)
 
-pub product-settled : (a b s z ea eb ma mb x y m : ℕ) → s ≡ (signOf F a + signOf F b) % 2 → ea ≡ exponentOf F a → eb ≡ exponentOf F b → (exponentOf F a ≡ 0 → ⊥) → (exponentOf F b ≡ 0 → ⊥) → ma ≡ significandOf F a → mb ≡ significandOf F b → x ≡ ma * mb → 9223372036854775808 ≤ x * 2 ^ z → x * 2 ^ z < 18446744073709551616 → y ≡ x * 2 ^ z → m ≡ near y 1099511627776 → settled F s (ea + eb - (112 + z)) m ≡ product F a b
+pub product-settled : (a b s z ea eb ma mb x y m : ℕ) → s ≡ (signOf F a + signOf F b) % 2 → ea ≡ exponentOf F a → eb ≡ exponentOf F b → (exponentOf F a ≡ 0 → ⊥) → (exponentOf F b ≡ 0 → ⊥) → ma ≡ significandOf F a → mb ≡ significandOf F b → x ≡ ma * mb → 9223372036854775808 ≤ x * 2 ^ z → x * 2 ^ z < 18446744073709551616 → y ≡ x * 2 ^ z → m ≡ near y 1099511627776 → settled F s (ea + eb) (112 + z) m ≡ product F a b
 product-settled a b s z ea eb ma mb x y m hs hea heb na nb hma hmb hx lo hi hy hm =
-    ap (λ (v : ℕ). settled F s v m) (moved (ea + eb) z)
+    settled-moved F s (ea + eb) (112 + z) (40 + (ea + eb)) (152 + z) m (moved (ea + eb) z)
     ∙ product-delivered F a b s z ea eb ma mb x m (lit< tt) 40 hs hea (λ v. na (sym hea ∙ v)) heb (λ v. nb (sym heb ∙ v)) hma hmb hx (normal-64 (x * 2 ^ z) lo hi) (hm ∙ ap (λ (v : ℕ). near v 1099511627776) hy)
     ∙ numbers-passed F a b (delivered F (times (valueOf F a) (valueOf F b))) na nb
   where
-    moved : (e z : ℕ) → e - (112 + z) ≡ 40 + e - (152 + z)
+    moved : (e z : ℕ) → e + (152 + z) ≡ 40 + e + (112 + z)
     moved e z = omega arith

@@ -49,7 +49,7 @@ module _ (f : Format) (a b : ℕ) where
       (hma : ma ≡ significandOf f a) (hmb : mb ≡ significandOf f b)
     where
       pub quotient-delivered : (k : ℕ) → Normal (f .bits) (ma * 2 ^ u) mb k → m ≡ near (ma * 2 ^ u) (mb * 2 ^ k)
-          → settled f s (k + (ea + (f .bits + f .excess)) - (eb + u)) m ≡ delivered-quotient
+          → settled f s (k + (ea + (f .bits + f .excess))) (eb + u) m ≡ delivered-quotient
       quotient-delivered k N hm =
           let w = f .bits + f .excess in
           let one : sizeOf f a ≡ ma * 2 ^ ea = size-fields f a ea ma hea (λ v. na (sym hea ∙ v)) hma in
@@ -65,13 +65,13 @@ module _ (f : Format) (a b : ℕ) where
 
       -- the whole part x has one digit more than are kept, and the last one rounds
       pub quotient-settled : (x : ℕ) → x ≡ ma * 2 ^ u / mb → 2 ^ f .bits ≤ x → x < 2 ^ f .bits * 2 → m ≡ near x 2
-          → settled f s (ea + (f .bits + f .excess + 1) - (eb + u)) m ≡ quotient f a b
+          → settled f s (ea + (f .bits + f .excess + 1)) (eb + u) m ≡ quotient f a b
       quotient-settled x hx lo hi hm =
           let same : x ≡ x * 2 ^ 0 = sym (mul-one x) in
           let N = one-more (f .bits) x P lo hi in
           let floor = floor-normal (f .bits) P (ma * 2 ^ u) mb x 0 1 B hx lo N in
           let rounds = floor-near (f .bits) P (ma * 2 ^ u) mb x 0 1 B hx lo N in
-          ap (λ (e : ℕ). settled f s (e - (eb + u)) m) (moved ea (f .bits + f .excess))
+          ap (λ (e : ℕ). settled f s e (eb + u) m) (moved ea (f .bits + f .excess))
           ∙ quotient-delivered 1 floor (hm ∙ ap (λ (v : ℕ). near v 2) same ∙ rounds)
           ∙ numbers-passed f a b delivered-quotient na nb
           ∙ by-number (simp (ne-eqb (exponentOf f b) 0 nb))

@@ -2,7 +2,7 @@
 use mathlib.Core.Path.{_≡_, refl, sym, ap, _∙_, subst}
 use mathlib.Core.Logic.{_⊎_, inl, inr}
 use Prim.Native.Nat.{ℕ, suc, _+_, _-_, _*_, _/_, _^_, _≤_, _<_}
-use native.Mathlib.Nat.{le-trans, le-of-eq, le-antisymm, lt-of-le-of-lt, lt-of-lt-of-le, lt-of-not-le, not-le-of-lt, eq-or-lt-of-le, le-div-iff-mul-le, div-lt-iff-lt-mul, div-mul-le-self, lt-div-mul-add, div-div-eq-div-mul, mul-div-mul-right, add-mul-div-right, one-mul, suc-mul, mul-comm, mul-assoc, mul-left-comm, mul-right-comm, add-mul, mul-le-mul-left, mul-le-mul-right, le-of-mul-le-mul-right, lt-of-mul-lt-mul-right, mul-pos, pow-suc}
+use native.Mathlib.Nat.{le-trans, le-of-eq, le-antisymm, lt-of-le-of-lt, lt-of-lt-of-le, lt-of-not-le, not-le-of-lt, eq-or-lt-of-le, le-div-iff-mul-le, div-lt-iff-lt-mul, div-mul-le-self, lt-div-mul-add, div-div-eq-div-mul, mul-div-mul-right, add-mul-div-right, one-mul, mul-one, suc-mul, mul-comm, mul-assoc, mul-left-comm, mul-right-comm, add-mul, mul-le-mul-left, mul-le-mul-right, le-of-mul-le-mul-right, lt-of-mul-lt-mul-right, mul-pos, pow-suc}
 use native.Mathlib.Omega.{arith}
 use mathlib.Core.Bool.{Bool, true, false, not, cond}
 use lib.Dec.{T, ltb, ltb→lt, nltb→le, lit<}
@@ -10,7 +10,7 @@ use lib.Pow.{pow-add, pow-pos, pow-mono}
 use lib.Ieee.{size}
 use lib.Ieee.Digits.{size-lt, size-le, size-reaches}
 use lib.Ieee.Nearest.{div-mono, div-same}
-use borrow.Author.Tests.{lt-ltb}
+use borrow.Author.Tests.{lt-ltb, le-ltb}
 use Rattle.floating.specs.Round.{near, places, Rounded, carried, rounded}
 use Rattle.floating.specs.Steps.{Enough, Normal}
 use Rattle.floating.proofs.Arithmetic.{pow-two, double-power}
@@ -227,6 +227,27 @@ carried-steps p r k = go (ltb r (2 ^ p))
     go true = (omega arith, omega arith)
     go false = (omega arith, omega arith)
 
+-- ---- The first exponent is 0 exactly where the number, rounded to a whole number, stays below 2 ^ p.
+module _ (p num den : ℕ) (D : 0 < den) where
+  -- with no digit past p
+  at-none : places p num den ≡ 0 → rounded p num den ≡ carried p (near num den) 0
+  unfolding rounded
+  at-none none = ap (λ (k : ℕ). carried p (near num (den * 2 ^ k)) k) none ∙ ap (λ (d : ℕ). carried p (near num d) 0) (mul-one den)
+
+  pub rounded-below : num * 2 + den < 2 ^ p * (den * 2) → rounded p num den .exp ≡ 0
+  rounded-below h =
+      let e : 2 ^ p * (den * 2) ≡ 2 ^ p * den * 2 = sym (mul-assoc (2 ^ p) den 2) in
+      let less : num < 2 ^ p * den = omega arith in
+      let s : size (num / den) ≤ p = size-le (num / den) p (div-lt-iff-lt-mul D .1 less) in
+      let none : places p num den ≡ 0 = omega arith in
+      let under : near num den < 2 ^ p = div-lt-iff-lt-mul (twice-pos num den D) .1 h in
+      ap (λ (x : Rounded). x .exp) (at-none none) ∙ simp (lt-ltb (near num den) (2 ^ p) under)
+
+  pub rounded-reaches : 2 ^ p * (den * 2) ≤ num * 2 + den → places p num den ≡ 0 → rounded p num den ≡ record { sig = 2 ^ (p - 1); exp = 1 }
+  rounded-reaches h none =
+      let over : 2 ^ p ≤ near num den = le-div-iff-mul-le (twice-pos num den D) .1 h in
+      at-none none ∙ simp (le-ltb (near num den) (2 ^ p) over)
+
 -- ---- Where the whole part X of a fraction has more than p digits, it alone decides, and may be moved up to any length.
 module _ (p : ℕ) (P : 0 < p) (n d X z K : ℕ) (D : 0 < d) (ex : X ≡ n / d) (long : 2 ^ p ≤ X) (N : Normal p (X * 2 ^ z) 1 K) where
   pub room : z < K
@@ -280,20 +301,16 @@ module _ (p m : ℕ) (lo : 2 ^ (p - 1) ≤ m) (hi : m < 2 ^ p) where
   pub itself-carried : (e : ℕ) → carried p m e ≡ record { sig = m; exp = e }
   itself-carried e = simp (lt-ltb m (2 ^ p) hi)
 
--- ---- the exponent and the digits after the first, put together: the carry adds one to the exponent by itself
-pub carry-added : (p e m : ℕ) → 0 < p → 0 < e → 2 ^ (p - 1) ≤ m → m ≤ 2 ^ p → (e - 1) * 2 ^ (p - 1) + m ≡ carried p m e .exp * 2 ^ (p - 1) + (carried p m e .sig - 2 ^ (p - 1))
-carry-added p e m P E lo hi = go (ltb m (2 ^ p)) (nltb→le m (2 ^ p))
+-- ---- the exponent with the digits after the first below it: the carry adds one to the exponent by itself
+pub carry-added : (p e m : ℕ) → 0 < p → 2 ^ (p - 1) ≤ m → m ≤ 2 ^ p → e * 2 ^ (p - 1) + (m - 2 ^ (p - 1)) ≡ carried p m e .exp * 2 ^ (p - 1) + (carried p m e .sig - 2 ^ (p - 1))
+carry-added p e m P lo hi = go (ltb m (2 ^ p)) (nltb→le m (2 ^ p))
   where
     q : ℕ
     q = 2 ^ (p - 1)
 
-    one-more : (e - 1) * q + q ≡ e * q
-    one-more = let s : suc (e - 1) ≡ e = omega arith in sym (suc-mul (e - 1) q) ∙ ap (λ (z : ℕ). z * q) s
-
-    go : (t : Bool) → (T (not t) → 2 ^ p ≤ m) → (e - 1) * q + m ≡ (by t p m e) .exp * q + ((by t p m e) .sig - q)
-    go true h = let o = one-more in omega arith
+    go : (t : Bool) → (T (not t) → 2 ^ p ≤ m) → e * q + (m - q) ≡ (by t p m e) .exp * q + ((by t p m e) .sig - q)
+    go true h = refl
     go false h =
-        let o = one-more in
         let d = double-power p P in
         let s : (e + 1) * q ≡ e * q + q = add-mul e 1 q ∙ ap (λ (z : ℕ). e * q + z) (one-mul q) in
         let t : 2 ^ p ≤ m = h tt in

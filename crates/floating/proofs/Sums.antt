@@ -18,7 +18,7 @@ use Rattle.floating.specs.Operations.{sum, difference}
 use Rattle.floating.specs.Steps.{Normal, turned, magnitude, sizeAt, settled, joint, combined}
 use Rattle.floating.proofs.Arithmetic.{sub-mul, double-power}
 use Rattle.floating.proofs.Rounding.{normal-64, room, floor-normal, floor-near, itself-normal, itself-near, itself-carried}
-use Rattle.floating.proofs.Delivering.{judged-word, delivered-zero, delivered-near, delivered-same}
+use Rattle.floating.proofs.Delivering.{judged-word, settled-moved, delivered-zero, delivered-near, delivered-same}
 use Rattle.floating.proofs.Align.{none-joint, some-long}
 use Rattle.floating.proofs.Products.{size-none, size-some, size-fields}
 use Rattle.floating.proofs.Packing.{Sound, F-sound, fraction-lt, exponent-lt, magnitude-word}
@@ -107,13 +107,15 @@ module _ (f : Format) where
   nothing-right s a t b d z = swapped s a t b d ∙ nothing-left t b s a d z
 
   -- ---- a number by itself
-  pub alone-delivered : (s w e m : ℕ) → 0 < f .bits → e ≡ exponentOf f w → (e ≡ 0 → ⊥) → m ≡ significandOf f w → 2 ^ (f .bits - 1) ≤ m → m < 2 ^ (f .bits) → judged f s e m e ≡ delivered f (units f s (sizeOf f w))
+  pub alone-delivered : (s w e m : ℕ) → 0 < f .bits → e ≡ exponentOf f w → (e ≡ 0 → ⊥) → m ≡ significandOf f w → 2 ^ (f .bits - 1) ≤ m → m < 2 ^ (f .bits) → judged f s m e ≡ delivered f (units f s (sizeOf f w))
   alone-delivered s w e m P he ne hm lo hi =
       let u = f .bits + f .excess in
-      let plain : 0 + e - 0 ≡ e = omega arith in
+      let plain : e ≡ e - 0 = omega arith in
+      let same : e + 0 ≡ 0 + e + 0 = omega arith in
       let z : sizeOf f w ≡ m * 2 ^ e = size-fields f w e m he ne hm in
-      ap (λ (x : Rounded). judged f s e (x .sig) (x .exp)) (sym (itself-carried (f .bits) m lo hi e))
-      ∙ ap (λ (y : ℕ). settled f s y m) (sym plain)
+      ap (λ (y : ℕ). judged f s m y) plain
+      ∙ ap (λ (x : Rounded). judged f s (x .sig) (x .exp - 0)) (sym (itself-carried (f .bits) m lo hi e))
+      ∙ settled-moved f s e 0 (0 + e) 0 m same
       ∙ delivered-near f s (m * 2 ^ e) (2 ^ u) m 1 0 m e 0 P (pow-pos u) (lit< tt) (mul-one (m * 2 ^ e * 2 ^ u)) (itself-normal (f .bits) m lo hi) (itself-near (f .bits) m lo hi)
       ∙ ap (λ (y : ℕ). delivered f (units f s y)) (sym z)
 
@@ -192,7 +194,7 @@ module _ (f : Format) (g : ℕ) (o ea a eb b : ℕ) (le : eb ≤ ea) where
       ap (λ (z : ℕ). joint o z (b * 2 ^ eb)) (apart a ea eb (ea - eb) ee) ∙ joint-factor o (a * 2 ^ (ea - eb)) b (2 ^ eb)
 
   -- X is the whole part in units of 2 ^ -g of a's last digit
-  pub joint-settled : (s X z K m : ℕ) → 0 < f .bits → X ≡ joint o (a * 2 ^ (ea - eb)) b * 2 ^ g / 2 ^ (ea - eb) → 2 ^ (f .bits) ≤ X → Normal (f .bits) (X * 2 ^ z) 1 K → m ≡ near (X * 2 ^ z) (1 * 2 ^ K) → settled f s (K - z + ea - g) m ≡ delivered f (units f s (joint o (a * 2 ^ ea) (b * 2 ^ eb)))
+  pub joint-settled : (s X z K m : ℕ) → 0 < f .bits → X ≡ joint o (a * 2 ^ (ea - eb)) b * 2 ^ g / 2 ^ (ea - eb) → 2 ^ (f .bits) ≤ X → Normal (f .bits) (X * 2 ^ z) 1 K → m ≡ near (X * 2 ^ z) (1 * 2 ^ K) → settled f s (K - z + ea) g m ≡ delivered f (units f s (joint o (a * 2 ^ ea) (b * 2 ^ eb)))
   joint-settled s X z K m P ex h N hm =
       let u = f .bits + f .excess in
       let d = ea - eb in
@@ -231,16 +233,16 @@ module _ (o k l w a b x : ℕ) (hl : l ≤ k) (hw : w ≡ o) (ha : a ≡ 8388608
   pub ordered-none : (s : ℕ) → x ≡ 0 → Word 0 ≡ delivered F (units F s (joint o (sizeAt F k) (sizeAt F l)))
   ordered-none s z = joint-none F 26 w (k / 8388608) a (l / 8388608) b no-higher s (none-joint a b (k / 8388608 - l / 8388608) a-low b-high w x hx z) ∙ ap (λ (y : ℕ). delivered F (units F s y)) here
 
-  pub ordered-settled : (s z y m : ℕ) → (x ≡ 0 → ⊥) → 9223372036854775808 ≤ x * 2 ^ z → x * 2 ^ z < 18446744073709551616 → y ≡ x * 2 ^ z → m ≡ near y 1099511627776 → settled F s (k / 8388608 + 14 - z) m ≡ delivered F (units F s (joint o (sizeAt F k) (sizeAt F l)))
+  pub ordered-settled : (s z y m : ℕ) → (x ≡ 0 → ⊥) → 9223372036854775808 ≤ x * 2 ^ z → x * 2 ^ z < 18446744073709551616 → y ≡ x * 2 ^ z → m ≡ near y 1099511627776 → settled F s (k / 8388608 + 14) z m ≡ delivered F (units F s (joint o (sizeAt F k) (sizeAt F l)))
   ordered-settled s z y m n lo hi hy hm =
       let long = some-long a b (k / 8388608 - l / 8388608) a-low b-high w x hx n in
       let N = normal-64 (x * 2 ^ z) lo hi in
       let r : z < 40 = room 24 (lit< tt) x 1 x z 40 (lit< tt) (sym (div-one x)) long N in
-      ap (λ (v : ℕ). settled F s v m) (moved (k / 8388608) z r)
+      settled-moved F s (k / 8388608 + 14) z (40 - z + k / 8388608) 26 m (moved (k / 8388608) z r)
       ∙ joint-settled F 26 w (k / 8388608) a (l / 8388608) b no-higher s x z 40 m (lit< tt) hx long N (hm ∙ ap (λ (v : ℕ). near v 1099511627776) hy)
       ∙ ap (λ (v : ℕ). delivered F (units F s v)) here
     where
-      moved : (e z : ℕ) → z < 40 → e + 14 - z ≡ 40 - z + e - 26
+      moved : (e z : ℕ) → z < 40 → e + 14 + 26 ≡ 40 - z + e + z
       moved e z h = omega arith
 
 -- ---- and of words
@@ -273,7 +275,7 @@ module _ (f : Format) (S : Sound f) where
       let v = S .range in
       let k : exponentOf f w ≤ f .largest = omega arith in
       let x : significandOf f w - 2 ^ (f .bits - 1) ≡ fractionOf f w = omega arith in
-      judged-word f s (exponentOf f w) (significandOf f w) (exponentOf f w) r n k (hr ∙ ap (λ (z : ℕ). wordOf f s (exponentOf f w) z) (sym x))
+      judged-word f s (significandOf f w) (exponentOf f w) r n k (hr ∙ ap (λ (z : ℕ). wordOf f s (exponentOf f w) z) (sym x))
       ∙ alone-delivered f s w (exponentOf f w) (significandOf f w) (S .first) refl n refl (omega arith) (omega arith)
 
   -- the sum, or the difference

@@ -1,24 +1,25 @@
--- What a format delivers of an exact number (document 01: "Results are the exact value rounded to 24 bits, halves away from zero. A zero result is all zero bits. Overflow is judged after rounding, underflow on the normalised exact value before rounding. Exponents run 1 to 255"). Definitions only.
+-- What a format delivers of an exact number (document 01: "Results are the exact value rounded to 24 bits, halves away from zero. A zero result is all zero bits. Exponents run 1 to 255"; document 02, Q-2, for every rounded result, in place of document 01's rule: the exponent is judged after normalising and rounding, for underflow as for overflow). Definitions only.
 use Prim.Native.Nat.{ℕ, _+_, _-_, _*_, _^_}
 use mathlib.Core.Bool.{cond}
 use lib.Dec.{eqb, ltb}
 use Rattle.floating.specs.Format.{Format, wordOf}
 use Rattle.floating.specs.Exact.{Exact}
-use Rattle.floating.specs.Round.{places, rounded}
+use Rattle.floating.specs.Round.{rounded}
 use Rattle.floating.specs.declared.Outcome.{Outcome}
 use Rattle.floating.specs.declared.Outcome.the-variants.{Word, Overflow, Underflow}
 
--- The one place where the range is judged: the sign s, the exponent field before rounding (0 is below the range), and the significand and the exponent field after it.
-abbrev pub judged : Format → ℕ → ℕ → ℕ → ℕ → Outcome
-judged f s before sig after =
-    cond (eqb before 0) Underflow
-    (cond (ltb (f .largest) after) Overflow
-    (Word (wordOf f s after (sig - 2 ^ (f .bits - 1)))))
+-- The one place where the range is judged: the sign s, and the significand and the exponent field of the rounded number (the field 0 is below the range).
+abbrev pub judged : Format → ℕ → ℕ → ℕ → Outcome
+judged f s sig field =
+    cond (eqb field 0) Underflow
+    (cond (ltb (f .largest) field) Overflow
+    (Word (wordOf f s field (sig - 2 ^ (f .bits - 1)))))
 
 -- A number with the exponent field e is 2 ^ (bits - 1 + e) at least, and below 2 ^ (bits + e), in units of 2 ^ -(bits + excess). So in those units the digits past `bits` count the field.
+-- A number below the range has none, and its field is 0 unless it rounds up to 2 ^ bits units, the smallest number. Only one that has all its `bits` digits before the point can, and whole units are what it is rounded to; a still smaller one has fewer, and never comes near (proofs/Delivering, delivered-near: rounded at its own scale, every number is judged the same).
 unfoldable pub delivered : Format → Exact → Outcome
 unfolding rounded
 delivered f v =
-    let n = v .num * 2 ^ (f .bits + f .excess) in
+    let r = rounded (f .bits) (v .num * 2 ^ (f .bits + f .excess)) (v .den) in
     cond (eqb (v .num) 0) (Word 0)
-    (judged f (v .sign) (places (f .bits) n (v .den)) (rounded (f .bits) n (v .den) .sig) (rounded (f .bits) n (v .den) .exp))
+    (judged f (v .sign) (r .sig) (r .exp))

@@ -25,13 +25,13 @@ magnitude f w = exponentOf f w * 2 ^ (f .bits - 1) + fractionOf f w
 abbrev pub sizeAt : Format → ℕ → ℕ
 sizeAt f k = (2 ^ (f .bits - 1) + k % 2 ^ (f .bits - 1)) * 2 ^ (k / 2 ^ (f .bits - 1))
 
--- the magnitude of a number with the exponent field e before rounding and the rounded significand m, whose first digit adds one to the field
+-- the magnitude of a number with the exponent field e before rounding and the rounded significand m: a carry out of its fraction adds one to the field
 abbrev pub packed : Format → ℕ → ℕ → ℕ
-packed f e m = (e - 1) * 2 ^ (f .bits - 1) + m
+packed f e m = e * 2 ^ (f .bits - 1) + (m - 2 ^ (f .bits - 1))
 
--- what is delivered of such a number
-abbrev pub settled : Format → ℕ → ℕ → ℕ → Outcome
-settled f s e m = judged f s e (carried (f .bits) m e .sig) (carried (f .bits) m e .exp)
+-- what is delivered of a number with the exponent field e less down before rounding, which may be below zero, and the rounded significand m
+abbrev pub settled : Format → ℕ → ℕ → ℕ → ℕ → Outcome
+settled f s e down m = judged f s (carried (f .bits) m e .sig) (carried (f .bits) m e .exp - down)
 
 -- a + b, or with o 1 a - b
 abbrev pub joint : ℕ → ℕ → ℕ → ℕ
