@@ -17,7 +17,7 @@ use Rattle.floating.specs.Operations.{lowBits, isWide, longword, toLongw
 use Rattle.floating.specs.Steps.{turned, packed, wholeBy, StandsFor}
 use Rattle.floating.proofs.Arithmetic.{pow-two}
 use Rattle.floating.proofs.Rounding.{normal-64}
-use Rattle.floating.proofs.Delivering.{settled-moved, delivered-zero, delivered-near}
+use Rattle.floating.proofs.Delivering.{delivered-zero, delivered-near}
 use Rattle.floating.proofs.Products.{size-none, size-fields}
 use Rattle.floating.proofs.Packing.{settled-word}
 use Rattle.floating.proofs.Refusing.{number-free}
@@ -191,15 +191,11 @@ pub whole-delivered : (s n z y m k w : ℕ) → s < 2 → z < 64 → 92233720368
 whole-delivered s n z y m k w hs hz lo hi hy hm mlo mhi hk small hw =
     let E : n * 2 ^ 152 * (1 * 2 ^ z) ≡ n * 2 ^ z * 2 ^ 152 * 1 = moved n (2 ^ 152) (2 ^ z) in
     sym
-    (settled-word s (192 - z) 0 m mlo mhi k (add-zero k ∙ hk) (least z hz m k hk) w hs (omega arith) hw
-    ∙ settled-moved F s (192 - z) 0 (40 + 152) z m (same z hz)
+    (settled-word s 192 z m mlo mhi k (above z hz (m / 16777216)) hk w hs (omega arith) hw
     ∙ delivered-near F s n 1 (n * 2 ^ z) 1 40 m 152 z (lit< tt) (lit< tt) (lit< tt) E (normal-64 (n * 2 ^ z) lo hi) (hm ∙ ap (λ (v : ℕ). near v 1099511627776) hy))
   where
-    least : (z : ℕ) → z < 64 → (m k : ℕ) → k ≡ packed F (192 - z) m → 8388608 ≤ k
-    least z h m k e = omega arith
-
-    same : (z : ℕ) → z < 64 → 192 - z + z ≡ 40 + 152 + 0
-    same z h = omega arith
+    above : (z : ℕ) → z < 64 → (c : ℕ) → z < 192 + c
+    above z h c = omega arith
 
     moved : (a b c : ℕ) → a * b * (1 * c) ≡ a * c * b * 1
     moved a b c = ap (λ (v : ℕ). a * b * v) (one-mul c) ∙ mul-right-comm a b c ∙ sym (mul-one (a * c * b))

@@ -1,19 +1,21 @@
 -- A format's fields fit into its words, and what is put into a word comes out of it. Over the format. Assumes nothing.
 use mathlib.Core.Path.{_≡_, refl, sym, ap, _∙_, subst}
+use mathlib.Core.Bool.{Bool, true, false, not}
 use Prim.Native.Nat.{ℕ, zero, suc, _+_, _-_, _*_, _/_, _%_, _^_, _≤_, _<_}
-use native.Mathlib.Nat.{le-of-eq, lt-of-lt-of-le, lt-of-le-of-lt, mul-comm, mul-assoc, add-mul, pow-suc, mod-lt, mod-eq-of-lt, div-add-mod', div-div-eq-div-mul, div-lt-iff-lt-mul, mul-pos}
+use native.Mathlib.Nat.{sub-zero, sub-eq-zero-of-le, le-of-eq, lt-of-lt-of-le, lt-of-le-of-lt, mul-comm, mul-assoc, add-mul, pow-suc, mod-lt, mod-eq-of-lt, div-add-mod', div-div-eq-div-mul, div-lt-iff-lt-mul, mul-pos}
 use native.Mathlib.Omega.{arith}
-use lib.Dec.{lit<, lit≤}
+use lib.Dec.{T, ltb, ltb→lt, nltb→le, lit<, lit≤}
 use lib.Arith.{digits-lt, digits-div, digits-mod, mod-mul}
 use lib.Pow.{pow-add, pow-pos, mod-pow-add}
 use Rattle.floating.specs.Format.{Format, F, upward, signOf, exponentOf, fractionOf, wordOf}
 use Rattle.floating.specs.declared.Outcome.the-variants.{Word, Overflow, Underflow}
 use Rattle.floating.specs.Exact.{sizeOf}
 use Rattle.floating.specs.Round.{carried}
+use Rattle.floating.specs.Delivered.{judged}
 use Rattle.floating.specs.Steps.{turned, magnitude, packed, settled}
 use Rattle.floating.proofs.Arithmetic.{double-power}
-use Rattle.floating.proofs.Rounding.{carried-in, carry-added}
-use Rattle.floating.proofs.Delivering.{judged-under, judged-over, judged-word}
+use Rattle.floating.proofs.Rounding.{by, carried-in, carry-added}
+use Rattle.floating.proofs.Delivering.{judged-under, judged-over, judged-word, settled-moved}
 use Rattle.floating.proofs.Products.{size-some}
 
 -- what makes a format's numbers fit together: the fraction fills the word, and the exponents fill their field
@@ -205,47 +207,51 @@ turned-is s e x hs he hx =
     last s e h l g = omega arith
 
 module _ (s e down m : ℕ) (lo : 8388608 ≤ m) (hi : m ≤ 16777216) where
-  told : packed F e m ≡ carried 24 m e .exp * 8388608 + (carried 24 m e .sig - 8388608)
-  told = carry-added 24 e m (lit< tt) lo hi
-
-  below : carried 24 m e .sig - 8388608 < 8388608
-  below = let b = carried-in 24 m e (lit< tt) lo in less (carried 24 m e .sig) (b .0) (b .1)
+  -- the carry, as the code takes it
+  carry-is : (e : ℕ) → carried 24 m e .exp ≡ e + m / 16777216
+  carry-is e = go (ltb m 16777216) (ltb→lt m 16777216) (nltb→le m 16777216)
     where
-      less : (y : ℕ) → 8388608 ≤ y → y < 16777216 → y - 8388608 < 8388608
-      less y l h = omega arith
+      go : (t : Bool) → (T t → m < 16777216) → (T (not t) → 16777216 ≤ m) → by t 24 m e .exp ≡ e + m / 16777216
+      go true g b = let l : m < 16777216 = g tt in omega arith
+      go false g b = let l : 16777216 ≤ m = b tt in omega arith
 
-  pub settled-under : packed F e m < down * 8388608 + 8388608 → Underflow ≡ settled F s e down m
-  settled-under h = judged-under F s (carried 24 m e .sig) (carried 24 m e .exp - down) (short (carried 24 m e .exp) (carried 24 m e .sig - 8388608) (packed F e m) told h)
-    where
-      short : (a x y : ℕ) → y ≡ a * 8388608 + x → y < down * 8388608 + 8388608 → a - down ≡ 0
-      short a x y e h = omega arith
+  pub settled-under : e + m / 16777216 ≤ down → Underflow ≡ settled F s e down m
+  settled-under h = judged-under F s (carried 24 m e .sig) (carried 24 m e .exp - down) (ap (λ (z : ℕ). z - down) (carry-is e) ∙ sub-eq-zero-of-le h)
 
-  -- with the magnitude k
-  module _ (k : ℕ) (hk : k + down * 8388608 ≡ packed F e m) (in-range : 8388608 ≤ k) where
-    split : k ≡ (carried 24 m e .exp - down) * 8388608 + (carried 24 m e .sig - 8388608)
-    split = parts (carried 24 m e .exp) (carried 24 m e .sig - 8388608) below (hk ∙ told)
+  -- not below the range, with the magnitude k
+  module _ (k : ℕ) (above : down < e + m / 16777216) (hk : k ≡ packed F (e - down) m) where
+    told : k ≡ carried 24 m (e - down) .exp * 8388608 + (carried 24 m (e - down) .sig - 8388608)
+    told = hk ∙ carry-added 24 (e - down) m (lit< tt) lo hi
+
+    below : carried 24 m (e - down) .sig - 8388608 < 8388608
+    below = let b = carried-in 24 m (e - down) (lit< tt) lo in less (carried 24 m (e - down) .sig) (b .0) (b .1)
       where
-        parts : (a x : ℕ) → x < 8388608 → k + down * 8388608 ≡ a * 8388608 + x → k ≡ (a - down) * 8388608 + x
-        parts a x l e = omega arith
+        less : (y : ℕ) → 8388608 ≤ y → y < 16777216 → y - 8388608 < 8388608
+        less y l h = omega arith
 
-    positive : carried 24 m e .exp - down ≡ 0 → ⊥
-    positive z = least (carried 24 m e .exp - down) (carried 24 m e .sig - 8388608) below split z
-      where
-        least : (a x : ℕ) → x < 8388608 → k ≡ a * 8388608 + x → a ≡ 0 → ⊥
-        least a x l e z = omega arith
+    positive : carried 24 m (e - down) .exp ≡ 0 → ⊥
+    positive z = let c : e - down + m / 16777216 ≡ 0 = sym (carry-is (e - down)) ∙ z in omega arith
+
+    counted : judged F s (carried 24 m (e - down) .sig) (carried 24 m (e - down) .exp) ≡ settled F s e down m
+    counted =
+        let reaches : e - down + down ≡ e + 0 = omega arith in
+        ap (λ (z : ℕ). judged F s (carried 24 m (e - down) .sig) z) (sym (sub-zero (carried 24 m (e - down) .exp))) ∙ settled-moved F s (e - down) 0 e down m reaches
 
     pub settled-over : 2147483647 < k → Overflow ≡ settled F s e down m
-    settled-over h = judged-over F s (carried 24 m e .sig) (carried 24 m e .exp - down) positive (past (carried 24 m e .exp - down) (carried 24 m e .sig - 8388608) below split)
+    settled-over h =
+        let a = carried 24 m (e - down) .exp in
+        let x = carried 24 m (e - down) .sig - 8388608 in
+        judged-over F s (carried 24 m (e - down) .sig) a positive (past a x below told) ∙ counted
       where
         past : (a x : ℕ) → x < 8388608 → k ≡ a * 8388608 + x → 255 < a
         past a x l e = omega arith
 
     pub settled-word : (w : ℕ) → s < 2 → k ≤ 2147483647 → w ≡ turned (s * 2147483648 + k) → Word w ≡ settled F s e down m
     settled-word w hs h hw =
-        let a = carried 24 m e .exp - down in
-        let x = carried 24 m e .sig - 8388608 in
-        let l : a ≤ 255 = within a x split in
-        judged-word F s (carried 24 m e .sig) a w positive l (hw ∙ ap (λ (z : ℕ). turned (s * 2147483648 + z)) split ∙ turned-is s a x hs l below)
+        let a = carried 24 m (e - down) .exp in
+        let x = carried 24 m (e - down) .sig - 8388608 in
+        let l : a ≤ 255 = within a x told in
+        judged-word F s (carried 24 m (e - down) .sig) a w positive l (hw ∙ ap (λ (z : ℕ). turned (s * 2147483648 + z)) told ∙ turned-is s a x hs l below) ∙ counted
       where
         within : (a x : ℕ) → k ≡ a * 8388608 + x → a ≤ 255
         within a x e = omega arith

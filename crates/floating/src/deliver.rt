@@ -9,7 +9,7 @@ ghost use Rattle.floating.specs.Steps.{turned, packed, settled};
 
 // The exponent field e, and below it the fraction of a rounded significand m. A carry out of the fraction adds one to the field.
 pub fn packed_of(e: u32, m: u32) -> u32
-    requires { ⌜ (e ≤ 510) × (8388608 ≤ m) × (m ≤ 16777216) ⌝ }
+    requires { ⌜ (e < 500) × (8388608 ≤ m) × (m ≤ 16777216) ⌝ }
     ensures { λ r. ⌜ r ≡ packed F e m ⌝ }
 {
     e * 8388608 + (m - 8388608)
@@ -24,19 +24,18 @@ pub fn word_of(s: u32, magnitude: u32) -> u32
 
 // The one place where the range is judged, after rounding (document 02, Q-2): the exponent field is e less down before it, and m is the rounded significand.
 pub fn deliver(exc: bool, s: u32, e: u32, down: u32, m: u32) -> Answer
-    requires { ⌜ (s < 2) × (e ≤ 510) × (down ≤ 510) × (8388608 ≤ m) × (m ≤ 16777216) ⌝ }
+    requires { ⌜ (s < 2) × (e < down + 500) × (down < 1000) × (8388608 ≤ m) × (m ≤ 16777216) ⌝ }
     ensures { λ r. ⌜ r ≡ answered exc (settled F s e down m) ⌝ }
 {
-    let high = packed_of(e, m);
-    let low = down * 8388608;
-    // A carry out of m counts here: a number that rounds up to the exponent 1 is in range.
-    if high < low + 8388608 {
+    // m / 16777216 is the carry: a number that rounds up to the exponent 1 is in range.
+    if e + m / 16777216 <= down {
         return Answer {
             value: word::chosen(exc, 0x8001, 0),
             types: word::chosen(exc, 1, 0),
         };
     }
-    let magnitude = high - low;
+    let field = e - down;
+    let magnitude = packed_of(field, m);
     if 2147483647 < magnitude {
         return Answer {
             value: 0x8008,
