@@ -248,3 +248,41 @@ quotient-reserved-divisor = refl
 pub quotient-zero : worksOut 0xAC 0x2123 0xFFFF007F 0x4080 ≡ gives 0xFFFF007F 0x4080 0
 unfolding executedOf accepted instructionOf wholeOf stepsBelow stepOf elementStep operated worked received resultOf written gathered ended notes inRange opcodeOf refused controlWordOf kindOf delivered rounded size
 quotient-zero = refl
+
+-- ---- document 02, Q-2: underflow is judged after rounding, V1[0] times V2[0]
+-- the example: FFFFFE times 800001, 2 less than 2 ^ 47, rounds up to the smallest number; without EXC too
+pub product-smallest : worksOut 0xA4 0x2123 0xFFFE407F 0x00010080 ≡ gives 0xFFFE407F 0x00010080 0x00000080
+unfolding executedOf accepted instructionOf wholeOf stepsBelow stepOf elementStep operated worked received resultOf written gathered ended notes inRange opcodeOf refused controlWordOf kindOf delivered rounded size
+product-smallest = refl
+
+pub product-smallest-quiet : worksOut 0xA4 0x0123 0xFFFE407F 0x00010080 ≡ gives 0xFFFE407F 0x00010080 0x00000080
+unfolding executedOf accepted instructionOf wholeOf stepsBelow stepOf elementStep operated worked received resultOf written gathered ended notes inRange opcodeOf refused controlWordOf kindOf delivered rounded size
+product-smallest-quiet = refl
+
+-- and with the other sign, and the scalar
+pub product-smallest-negative : worksOut 0xA4 0x2123 0xFFFEC07F 0x00010080 ≡ gives 0xFFFEC07F 0x00010080 0x00008080
+unfolding executedOf accepted instructionOf wholeOf stepsBelow stepOf elementStep operated worked received resultOf written gathered ended notes inRange opcodeOf refused controlWordOf kindOf delivered rounded size
+product-smallest-negative = refl
+
+pub product-smallest-scalar : executedOf (state (holding 0 0x00010080) (control 1 0 1)) 0xA5 0x2023 0xFFFE407F 0 0 [] 0 ≡ gives 0 0x00010080 0x00000080
+unfolding executedOf accepted instructionOf wholeOf stepsBelow stepOf elementStep operated worked received resultOf written gathered ended notes inRange opcodeOf refused controlWordOf kindOf delivered rounded size
+product-smallest-scalar = refl
+
+-- F80000 times 842108, half a unit below it: halves go away from zero
+pub product-half-below : worksOut 0xA4 0x2123 0x00004078 0x21080084 ≡ gives 0x00004078 0x21080084 0x00000080
+unfolding executedOf accepted instructionOf wholeOf stepsBelow stepOf elementStep operated worked received resultOf written gathered ended notes inRange opcodeOf refused controlWordOf kindOf delivered rounded size
+product-half-below = refl
+
+-- FFFFFD times 800001 rounds to FFFFFF, which is still below it: 0 without EXC, 8001 with
+pub product-below-quiet : worksOut 0xA4 0x0123 0xFFFD407F 0x00010080 ≡ gives 0xFFFD407F 0x00010080 0
+unfolding executedOf accepted instructionOf wholeOf stepsBelow stepOf elementStep operated worked received resultOf written gathered ended notes inRange opcodeOf refused controlWordOf kindOf delivered rounded size
+product-below-quiet = refl
+
+pub product-below : worksOut 0xA4 0x2123 0xFFFD407F 0x00010080 ≡ records 0xFFFD407F 0x00010080 0x8001 0x00080001
+unfolding executedOf accepted instructionOf wholeOf stepsBelow stepOf elementStep operated worked received resultOf written gathered ended notes inRange opcodeOf refused controlWordOf kindOf delivered rounded size
+product-below = refl
+
+-- one exponent further down the same carry does not reach it
+pub product-carry-below : worksOut 0xA4 0x2123 0xFFFE3FFF 0x00010080 ≡ records 0xFFFE3FFF 0x00010080 0x8001 0x00080001
+unfolding executedOf accepted instructionOf wholeOf stepsBelow stepOf elementStep operated worked received resultOf written gathered ended notes inRange opcodeOf refused controlWordOf kindOf delivered rounded size
+product-carry-below = refl

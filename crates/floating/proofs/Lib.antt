@@ -10,6 +10,7 @@ pub mod Packing
 pub mod Magnitude
 pub mod Sums
 pub mod Meaning
+pub mod Underflow
 pub mod Converting
 pub mod Ordering
 pub mod Double

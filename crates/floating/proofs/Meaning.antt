@@ -1,4 +1,4 @@
--- What a delivered word means: its value is the exact number rounded to the format's bits, half a unit away at most, a half away from zero; and a word's own value delivers that word. Over the format. Assumes nothing.
+-- What a delivered word means: its value is the exact number rounded to the format's bits, half a unit away at most, a half away from zero; and a word's own value delivers that word. What an underflow means: the rounded number is below the smallest. Over the format. Assumes nothing.
 use mathlib.Core.Path.{_≡_, refl, sym, ap, _∙_}
 use mathlib.Core.Bool.{Bool, true, false, cond}
 use Prim.Native.Nat.{ℕ, _+_, _-_, _*_, _^_, _≤_, _<_}
@@ -6,7 +6,7 @@ use native.Mathlib.Nat.{le-trans, le-of-eq, lt-of-lt-of-le, pos-of-ne-zero, mul-
 use native.Mathlib.Omega.{arith}
 use lib.Dec.{eqb, ltb}
 use lib.Pow.{pow-pos}
-use borrow.Author.Tests.{eqb-false, ltb-false}
+use borrow.Author.Tests.{ne-eqb, eqb-false, ltb-false}
 use Rattle.floating.specs.declared.Outcome.the-variants.{Word, Overflow, Underflow}
 use Rattle.floating.specs.Format.{Format, signOf, exponentOf, fractionOf, significandOf, wordOf}
 use Rattle.floating.specs.Exact.{Exact, sizeOf, valueOf}
@@ -14,10 +14,28 @@ use Rattle.floating.specs.Round.{places, rounded}
 use Rattle.floating.specs.Delivered.{judged, delivered}
 use Rattle.floating.specs.Steps.{Enough}
 use Rattle.floating.proofs.Arithmetic.{double-power}
-use Rattle.floating.proofs.Rounding.{worth, rounded-below, rounded-in, rounded-over, rounded-under}
-use Rattle.floating.proofs.Delivering.{delivered-some, judged-word}
+use Rattle.floating.proofs.Rounding.{worth, rounded-below, rounded-reaches, rounded-in, rounded-over, rounded-under}
+use Rattle.floating.proofs.Delivering.{delivered-some, judged-under, judged-word}
 use Rattle.floating.proofs.Sums.{alone-delivered}
 use Rattle.floating.proofs.Packing.{Sound, fraction-lt, exponent-lt, repacked, sign-back, size-back}
+
+-- ---- The smallest number is 2 ^ bits units. An exact number underflows exactly where it is more than half a unit below that: rounded, it stays below.
+module _ (f : Format) (v : Exact) (D : 0 < v .den) (some : v .num ≡ 0 → ⊥) where
+  pub delivered-underflow : v .num * 2 ^ (f .bits + f .excess) * 2 + v .den < 2 ^ (f .bits) * (v .den * 2) → delivered f v ≡ Underflow
+  delivered-underflow h =
+      let n = v .num * 2 ^ (f .bits + f .excess) in
+      delivered-some f v some ∙ sym (judged-under f (v .sign) (rounded (f .bits) n (v .den) .sig) (rounded (f .bits) n (v .den) .exp) (rounded-below (f .bits) n (v .den) D h))
+
+  pub delivered-reaches : 2 ^ (f .bits) * (v .den * 2) ≤ v .num * 2 ^ (f .bits + f .excess) * 2 + v .den → delivered f v ≡ Underflow → ⊥
+  delivered-reaches h is =
+      let n = v .num * 2 ^ (f .bits + f .excess) in
+      let e = rounded (f .bits) n (v .den) .exp in
+      let above : (e ≡ 0 → ⊥) = rounded-reaches (f .bits) n (v .den) D h in
+      go (ltb (f .largest) e) (wordOf f (v .sign) e (rounded (f .bits) n (v .den) .sig - 2 ^ (f .bits - 1))) (sym (delivered-some f v some ∙ simp (ne-eqb e 0 above)) ∙ is)
+    where
+      go : (t : Bool) (w : ℕ) → cond t Overflow (Word w) ≡ Underflow → ⊥
+      go true w h = let z : _≡_ {A = ℕ} 0 1 = cc in omega arith
+      go false w h = let z : _≡_ {A = ℕ} 0 1 = cc in omega arith
 
 module _ (f : Format) (S : Sound f) where
   -- ---- a word was in range

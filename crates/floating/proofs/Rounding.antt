@@ -227,7 +227,7 @@ carried-steps p r k = go (ltb r (2 ^ p))
     go true = (omega arith, omega arith)
     go false = (omega arith, omega arith)
 
--- ---- The first exponent is 0 exactly where the number, rounded to a whole number, stays below 2 ^ p.
+-- ---- the exponent is 0 exactly where the number, rounded to a whole number, stays below 2 ^ p
 module _ (p num den : ℕ) (D : 0 < den) where
   -- with no digit past p
   at-none : places p num den ≡ 0 → rounded p num den ≡ carried p (near num den) 0
@@ -243,10 +243,20 @@ module _ (p num den : ℕ) (D : 0 < den) where
       let under : near num den < 2 ^ p = div-lt-iff-lt-mul (twice-pos num den D) .1 h in
       ap (λ (x : Rounded). x .exp) (at-none none) ∙ simp (lt-ltb (near num den) (2 ^ p) under)
 
-  pub rounded-reaches : 2 ^ p * (den * 2) ≤ num * 2 + den → places p num den ≡ 0 → rounded p num den ≡ record { sig = 2 ^ (p - 1); exp = 1 }
-  rounded-reaches h none =
+  pub rounded-up : 2 ^ p * (den * 2) ≤ num * 2 + den → places p num den ≡ 0 → rounded p num den ≡ record { sig = 2 ^ (p - 1); exp = 1 }
+  rounded-up h none =
       let over : 2 ^ p ≤ near num den = le-div-iff-mul-le (twice-pos num den D) .1 h in
       at-none none ∙ simp (le-ltb (near num den) (2 ^ p) over)
+
+  pub places-counted : places p num den ≤ rounded p num den .exp
+  unfolding rounded
+  places-counted = carried-steps p (near num (den * 2 ^ places p num den)) (places p num den) .0
+
+  pub rounded-reaches : 2 ^ p * (den * 2) ≤ num * 2 + den → rounded p num den .exp ≡ 0 → ⊥
+  rounded-reaches h z =
+      let none : places p num den ≡ 0 = omega (arith, places-counted) in
+      let one : rounded p num den .exp ≡ 1 = ap (λ (x : Rounded). x .exp) (rounded-up h none) in
+      omega arith
 
 -- ---- Where the whole part X of a fraction has more than p digits, it alone decides, and may be moved up to any length.
 module _ (p : ℕ) (P : 0 < p) (n d X z K : ℕ) (D : 0 < d) (ex : X ≡ n / d) (long : 2 ^ p ≤ X) (N : Normal p (X * 2 ^ z) 1 K) where

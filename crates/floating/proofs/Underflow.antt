@@ -1,0 +1,159 @@
+-- Which results document 02, Q-2 touches. The two rules give different outcomes of an exact number only where it lies below the smallest number and rounds up to it; then the smallest number is delivered in place of an underflow. No sum, no difference and no converted longword is such a number, in any format; a product can be. (A longword made of a format's number is not judged by this rule.) Assumes nothing.
+use mathlib.Core.Path.{_≡_, refl, sym, ap, _∙_}
+use mathlib.Core.Logic.{_⊎_, inl, inr}
+use mathlib.Core.Bool.{Bool, true, false, cond}
+use Prim.Native.Nat.{ℕ, _+_, _-_, _*_, _/_, _^_, _≤_, _<_}
+use native.Mathlib.Nat.{le-of-eq, lt-of-le-of-lt, lt-of-lt-of-le, lt-of-mul-lt-mul-right, eq-zero-or-pos, zero-mul, one-mul, mul-one, mul-assoc, add-mul, mul-le-mul-right, mul-pos, sub-self, sub-eq-zero-of-le, le-of-sub-eq-zero, div-lt-iff-lt-mul}
+use native.Mathlib.Omega.{arith}
+use lib.Dec.{eqb, ltb, lit<}
+use lib.Ieee.{size}
+use lib.Ieee.Digits.{size-lt, size-le}
+use lib.Pow.{pow-pos, pow-mono}
+use borrow.Author.Tests.{eq-eqb, ne-eqb}
+use Rattle.floating.specs.declared.Outcome.{Outcome}
+use Rattle.floating.specs.declared.Outcome.the-variants.{Word, Overflow, Underflow, Reserved}
+use Rattle.floating.specs.Format.{Format, F, signOf, wordOf, isReserved}
+use Rattle.floating.specs.Exact.{Exact, sizeOf, valueOf, whole, longwordValue, together, plus, minus, times}
+use Rattle.floating.specs.Round.{places, Rounded, rounded}
+use Rattle.floating.specs.Delivered.{judged, delivered}
+use Rattle.floating.specs.Operations.{sum, difference, product, fromLongword}
+use Rattle.floating.proofs.Arithmetic.{sub-mul}
+use Rattle.floating.proofs.Rounding.{rounded-up, places-counted}
+use Rattle.floating.proofs.Delivering.{judged-word, delivered-zero, delivered-some}
+use Rattle.floating.proofs.Meaning.{delivered-underflow}
+
+-- ---- the rule that was replaced (document 01: "Overflow is judged after rounding, underflow on the normalised exact value before rounding")
+abbrev pub deliveredBefore : Format → Exact → Outcome
+deliveredBefore f v =
+    let n = v .num * 2 ^ (f .bits + f .excess) in
+    cond (eqb (v .num) 0) (Word 0)
+    (cond (eqb (places (f .bits) n (v .den)) 0) Underflow
+    (cond (ltb (f .largest) (rounded (f .bits) n (v .den) .exp)) Overflow
+    (Word (wordOf f (v .sign) (rounded (f .bits) n (v .den) .exp) (rounded (f .bits) n (v .den) .sig - 2 ^ (f .bits - 1))))))
+
+-- v lies below the smallest number, which is 2 ^ bits units, by half a unit at most
+pub record RoundsUp (f : Format) (v : Exact) : Type 0 where
+  pub below : v .num * 2 ^ (f .bits + f .excess) < 2 ^ (f .bits) * v .den
+  pub reaches : 2 ^ (f .bits) * (v .den * 2) ≤ v .num * 2 ^ (f .bits + f .excess) * 2 + v .den
+
+module _ (f : Format) (v : Exact) (D : 0 < v .den) where
+  -- in units
+  abbrev n : ℕ
+  n = v .num * 2 ^ (f .bits + f .excess)
+
+  abbrev ranged : Outcome
+  ranged = cond (ltb (f .largest) (rounded (f .bits) n (v .den) .exp)) Overflow (Word (wordOf f (v .sign) (rounded (f .bits) n (v .den) .exp) (rounded (f .bits) n (v .den) .sig - 2 ^ (f .bits - 1))))
+
+  -- below the smallest number there are no places
+  no-places : n < 2 ^ (f .bits) * v .den → places (f .bits) n (v .den) ≡ 0
+  no-places h = sub-eq-zero-of-le (size-le (n / v .den) (f .bits) (div-lt-iff-lt-mul D .1 h))
+
+  before-under : (v .num ≡ 0 → ⊥) → places (f .bits) n (v .den) ≡ 0 → deliveredBefore f v ≡ Underflow
+  before-under h g = simp (ne-eqb (v .num) 0 h, eq-eqb (places (f .bits) n (v .den)) 0 g)
+
+  before-some : (v .num ≡ 0 → ⊥) → (places (f .bits) n (v .den) ≡ 0 → ⊥) → deliveredBefore f v ≡ ranged
+  before-some h g = simp (ne-eqb (v .num) 0 h, ne-eqb (places (f .bits) n (v .den)) 0 g)
+
+  pub untouched : (RoundsUp f v → ⊥) → deliveredBefore f v ≡ delivered f v
+  untouched never = go (eq-zero-or-pos (v .num)) (eq-zero-or-pos (places (f .bits) n (v .den))) (eq-zero-or-pos (2 ^ (f .bits) * (v .den * 2) - (n * 2 + v .den)))
+    where
+      some : 0 < v .num → v .num ≡ 0 → ⊥
+      some h z = omega arith
+
+      go : (v .num ≡ 0) ⊎ (0 < v .num) → (places (f .bits) n (v .den) ≡ 0) ⊎ (0 < places (f .bits) n (v .den)) → (2 ^ (f .bits) * (v .den * 2) - (n * 2 + v .den) ≡ 0) ⊎ (0 < 2 ^ (f .bits) * (v .den * 2) - (n * 2 + v .den)) → deliveredBefore f v ≡ delivered f v
+      go (inl z) p r = (simp (eq-eqb (v .num) 0 z)) ∙ sym (delivered-zero f v z)
+      go (inr h) (inr p) r =
+          let k = places (f .bits) n (v .den) in
+          let e = rounded (f .bits) n (v .den) .exp in
+          let l : k ≤ e = places-counted (f .bits) n (v .den) D in
+          before-some (some h) (λ z. omega arith) ∙ sym (delivered-some f v (some h) ∙ simp (ne-eqb e 0 (λ z. omega arith)))
+      go (inr h) (inl p) (inl r) = absurd (never (record { below = few; reaches = le-of-sub-eq-zero r }))
+        where
+          few : n < 2 ^ (f .bits) * v .den
+          few = lt-of-lt-of-le (div-lt-iff-lt-mul D .0 (size-lt (n / v .den))) (mul-le-mul-right (v .den) (pow-mono (le-of-sub-eq-zero p)))
+      go (inr h) (inl p) (inr r) =
+          let below : n * 2 + v .den < 2 ^ (f .bits) * (v .den * 2) = omega arith in
+          before-under (some h) p ∙ sym (delivered-underflow f v D (some h) below)
+
+  pub touched : 1 ≤ f .largest → RoundsUp f v → (deliveredBefore f v ≡ Underflow) × (delivered f v ≡ Word (wordOf f (v .sign) 1 0))
+  touched top up =
+      let none = no-places (up .below) in (
+        before-under some none,
+        delivered-some f v some
+            ∙ ap (λ (x : Rounded). judged f (v .sign) (x .sig) (x .exp)) (rounded-up (f .bits) n (v .den) D (up .reaches) none)
+            ∙ sym (judged-word f (v .sign) (2 ^ (f .bits - 1)) 1 (wordOf f (v .sign) 1 0) (λ z. omega arith) top (ap (λ (z : ℕ). wordOf f (v .sign) 1 z) (sym (sub-self (2 ^ (f .bits - 1)))))),
+      )
+    where
+      some : v .num ≡ 0 → ⊥
+      some z =
+          let a : n ≡ 0 = ap (λ (y : ℕ). y * 2 ^ (f .bits + f .excess)) z ∙ zero-mul (2 ^ (f .bits + f .excess)) in
+          let b : 1 * (v .den * 2) ≤ 2 ^ (f .bits) * (v .den * 2) = mul-le-mul-right (v .den * 2) (pow-pos (f .bits)) in
+          let r = up .reaches in
+          omega arith
+
+-- ---- a whole number of units does not round up
+module _ (f : Format) where
+  units-untouched : (s num den q : ℕ) → 0 < den → num * 2 ^ (f .bits + f .excess) ≡ q * den → deliveredBefore f (record { sign = s; num = num; den = den }) ≡ delivered f (record { sign = s; num = num; den = den })
+  units-untouched s num den q D e = untouched f (record { sign = s; num = num; den = den }) D never
+    where
+      never : RoundsUp f (record { sign = s; num = num; den = den }) → ⊥
+      never up =
+          let below : q * den < 2 ^ (f .bits) * den = lt-of-le-of-lt (le-of-eq (sym e)) (up .below) in
+          let few : q < 2 ^ (f .bits) = lt-of-mul-lt-mul-right den below in
+          let next : (q + 1) * den ≤ 2 ^ (f .bits) * den = mul-le-mul-right den (omega arith) in
+          let one : (q + 1) * den ≡ q * den + den = add-mul q 1 den ∙ ap (λ (z : ℕ). q * den + z) (one-mul den) in
+          let r = up .reaches in
+          let t : 2 ^ (f .bits) * (den * 2) ≡ 2 ^ (f .bits) * den * 2 = sym (mul-assoc (2 ^ (f .bits)) den 2) in
+          omega arith
+
+  -- two numbers of the format, together
+  together-untouched : (s a t b u : ℕ) → u ≡ 2 ^ (f .bits + f .excess) → deliveredBefore f (together s (a * u) t (b * u) (u * u)) ≡ delivered f (together s (a * u) t (b * u) (u * u))
+  together-untouched s a t b u hu = go (eqb s t) (ltb (b * u) (a * u))
+    where
+      U : 0 < u
+      U = lt-of-lt-of-le (pow-pos (f .bits + f .excess)) (le-of-eq (sym hu))
+
+      at : (s c x : ℕ) → c * u ≡ x → deliveredBefore f (record { sign = s; num = x; den = u * u }) ≡ delivered f (record { sign = s; num = x; den = u * u })
+      at s c x h = units-untouched s x (u * u) c (mul-pos U U) (ap (λ (z : ℕ). x * z) (sym hu) ∙ ap (λ (z : ℕ). z * u) (sym h) ∙ mul-assoc c u u)
+
+      go : (p q : Bool)
+          → deliveredBefore f (cond p (record { sign = s; num = a * u + b * u; den = u * u }) (cond q (record { sign = s; num = a * u - b * u; den = u * u }) (record { sign = t; num = b * u - a * u; den = u * u })))
+          ≡ delivered f (cond p (record { sign = s; num = a * u + b * u; den = u * u }) (cond q (record { sign = s; num = a * u - b * u; den = u * u }) (record { sign = t; num = b * u - a * u; den = u * u })))
+      go true q = at s (a + b) (a * u + b * u) (add-mul a b u)
+      go false true = at s (a - b) (a * u - b * u) (sub-mul a b u)
+      go false false = at t (b - a) (b * u - a * u) (sub-mul b a u)
+
+  abbrev pub bothBefore : (Exact → Exact → Exact) → ℕ → ℕ → Outcome
+  bothBefore op a b =
+      cond (isReserved f a) Reserved
+      (cond (isReserved f b) Reserved
+      (deliveredBefore f (op (valueOf f a) (valueOf f b))))
+
+  module _ (a b : ℕ) where
+    abbrev numbers : Outcome → Outcome
+    numbers o = cond (isReserved f a) Reserved (cond (isReserved f b) Reserved o)
+
+    pub sum-untouched : bothBefore plus a b ≡ sum f a b
+    sum-untouched = ap numbers (together-untouched (signOf f a) (sizeOf f a) (signOf f b) (sizeOf f b) (2 ^ (f .bits + f .excess)) refl)
+
+    pub difference-untouched : bothBefore minus a b ≡ difference f a b
+    difference-untouched = ap numbers (together-untouched (signOf f a) (sizeOf f a) (1 - signOf f b) (sizeOf f b) (2 ^ (f .bits + f .excess)) refl)
+
+  pub converted-untouched : (l : ℕ) → deliveredBefore f (longwordValue l) ≡ fromLongword f l
+  converted-untouched l = go (ltb l 0x8000_0000)
+    where
+      at : (s n : ℕ) → deliveredBefore f (whole s n) ≡ delivered f (whole s n)
+      at s n = units-untouched s n 1 (n * 2 ^ (f .bits + f .excess)) (lit< tt) (sym (mul-one (n * 2 ^ (f .bits + f .excess))))
+
+      go : (t : Bool) → deliveredBefore f (cond t (whole 0 l) (whole 1 (0x1_0000_0000 - l))) ≡ delivered f (cond t (whole 0 l) (whole 1 (0x1_0000_0000 - l)))
+      go true = at 0 l
+      go false = at 1 (0x1_0000_0000 - l)
+
+-- ---- a product that is touched: document 02's example
+pub product-before : bothBefore F times 0xFFFE407F 0x00010080 ≡ Underflow
+unfolding rounded size
+product-before = refl
+
+pub product-now : product F 0xFFFE407F 0x00010080 ≡ Word 0x00000080
+unfolding delivered rounded size
+product-now = refl
