@@ -1,4 +1,4 @@
--- Document 01, "What an element receives", and document 02, Q-1: the work of one element, over what it reads there. a is Va's element or the scalar, b is Vb's, c is Vc's own.
+-- Document 01, "What an element receives", and document 02, Q-1 and Q-2: the work of one element, over what it reads there. a is Va's element or the scalar, b is Vb's, c is Vc's own.
 use mathlib.Core.Bool.{Bool, _&&_}
 use Prim.Native.Nat.{ℕ}
 use lib.Dec.{eqb}

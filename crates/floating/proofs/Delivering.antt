@@ -2,7 +2,7 @@
 use mathlib.Core.Path.{_≡_, refl, sym, ap, _∙_}
 use mathlib.Core.Logic.{_⊎_, inl, inr}
 use mathlib.Core.Bool.{Bool, true, false}
-use Prim.Native.Nat.{ℕ, _+_, _-_, _*_, _/_, _^_, _≤_, _<_}
+use Prim.Native.Nat.{ℕ, _+_, _-_, _*_, _^_, _≤_, _<_}
 use native.Mathlib.Nat.{le-trans, le-of-eq, lt-of-le-of-lt, lt-of-lt-of-le, eq-zero-or-pos, sub-zero, zero-mul, one-mul, mul-comm, mul-assoc, mul-left-comm, mul-right-comm, mul-le-mul-left, mul-le-mul-right, mul-lt-mul-of-pos-right, mul-pos, le-of-mul-le-mul-right, lt-of-mul-lt-mul-right, eq-of-mul-eq-mul-right}
 use native.Mathlib.Omega.{arith}
 use lib.Dec.{ltb}
@@ -27,7 +27,7 @@ module _ (p N D n d k up down : ℕ) (P : 0 < p) (DD : 0 < D) (dd : 0 < d) (E : 
   joined : n * (2 ^ up * D) ≡ N * (d * 2 ^ down)
   joined = sym (mul-assoc n (2 ^ up) D) ∙ sym E
 
-  -- further below the range than a carry reaches
+  -- below half the smallest number: no carry reaches it
   below : k + up < down → N * 2 < 2 ^ p * D
   below h =
       let two : 2 ≡ 2 ^ 1 = refl in
@@ -92,7 +92,7 @@ module _ (f : Format) where
   unfolding delivered
   delivered-some v h = simp (ne-eqb (v .num) 0 h)
 
-  -- only by how much e is above down counts
+  -- only how far e lies above or below down counts
   pub settled-moved : (s e down e' down' m : ℕ) → e + down' ≡ e' + down → settled f s e down m ≡ settled f s e' down' m
   settled-moved s e down e' down' m h = go (ltb m (2 ^ f .bits))
     where

@@ -19,7 +19,7 @@ use Rattle.floating.proofs.Delivering.{delivered-some, judged-under, ju
 use Rattle.floating.proofs.Sums.{alone-delivered}
 use Rattle.floating.proofs.Packing.{Sound, fraction-lt, exponent-lt, repacked, sign-back, size-back}
 
--- ---- The smallest number is 2 ^ bits units. An exact number underflows exactly where it is more than half a unit below that: rounded, it stays below.
+-- ---- The smallest number is 2 ^ bits units. An exact number that is not zero underflows exactly where it is more than half a unit below that: rounded, it stays below.
 module _ (f : Format) (v : Exact) (D : 0 < v .den) (some : v .num ≡ 0 → ⊥) where
   pub delivered-underflow : v .num * 2 ^ (f .bits + f .excess) * 2 + v .den < 2 ^ (f .bits) * (v .den * 2) → delivered f v ≡ Underflow
   delivered-underflow h =

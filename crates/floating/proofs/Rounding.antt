@@ -2,7 +2,7 @@
 use mathlib.Core.Path.{_≡_, refl, sym, ap, _∙_, subst}
 use mathlib.Core.Logic.{_⊎_, inl, inr}
 use Prim.Native.Nat.{ℕ, suc, _+_, _-_, _*_, _/_, _^_, _≤_, _<_}
-use native.Mathlib.Nat.{le-trans, le-of-eq, le-antisymm, lt-of-le-of-lt, lt-of-lt-of-le, lt-of-not-le, not-le-of-lt, eq-or-lt-of-le, le-div-iff-mul-le, div-lt-iff-lt-mul, div-mul-le-self, lt-div-mul-add, div-div-eq-div-mul, mul-div-mul-right, add-mul-div-right, one-mul, mul-one, suc-mul, mul-comm, mul-assoc, mul-left-comm, mul-right-comm, add-mul, mul-le-mul-left, mul-le-mul-right, le-of-mul-le-mul-right, lt-of-mul-lt-mul-right, mul-pos, pow-suc}
+use native.Mathlib.Nat.{le-trans, le-of-eq, le-antisymm, sub-eq-zero-of-le, lt-of-le-of-lt, lt-of-lt-of-le, lt-of-not-le, not-le-of-lt, eq-or-lt-of-le, le-div-iff-mul-le, div-lt-iff-lt-mul, div-mul-le-self, lt-div-mul-add, div-div-eq-div-mul, mul-div-mul-right, add-mul-div-right, one-mul, mul-one, mul-comm, mul-assoc, mul-left-comm, mul-right-comm, add-mul, mul-le-mul-left, mul-le-mul-right, le-of-mul-le-mul-right, lt-of-mul-lt-mul-right, mul-pos, pow-suc}
 use native.Mathlib.Omega.{arith}
 use mathlib.Core.Bool.{Bool, true, false, not, cond}
 use lib.Dec.{T, ltb, ltb→lt, nltb→le, lit<}
@@ -229,6 +229,9 @@ carried-steps p r k = go (ltb r (2 ^ p))
 
 -- ---- the exponent is 0 exactly where the number, rounded to a whole number, stays below 2 ^ p
 module _ (p num den : ℕ) (D : 0 < den) where
+  pub no-places : num < 2 ^ p * den → places p num den ≡ 0
+  no-places h = sub-eq-zero-of-le (size-le (num / den) p (div-lt-iff-lt-mul D .1 h))
+
   -- with no digit past p
   at-none : places p num den ≡ 0 → rounded p num den ≡ carried p (near num den) 0
   unfolding rounded
@@ -238,10 +241,8 @@ module _ (p num den : ℕ) (D : 0 < den) where
   rounded-below h =
       let e : 2 ^ p * (den * 2) ≡ 2 ^ p * den * 2 = sym (mul-assoc (2 ^ p) den 2) in
       let less : num < 2 ^ p * den = omega arith in
-      let s : size (num / den) ≤ p = size-le (num / den) p (div-lt-iff-lt-mul D .1 less) in
-      let none : places p num den ≡ 0 = omega arith in
       let under : near num den < 2 ^ p = div-lt-iff-lt-mul (twice-pos num den D) .1 h in
-      ap (λ (x : Rounded). x .exp) (at-none none) ∙ simp (lt-ltb (near num den) (2 ^ p) under)
+      ap (λ (x : Rounded). x .exp) (at-none (no-places less)) ∙ simp (lt-ltb (near num den) (2 ^ p) under)
 
   pub rounded-up : 2 ^ p * (den * 2) ≤ num * 2 + den → places p num den ≡ 0 → rounded p num den ≡ record { sig = 2 ^ (p - 1); exp = 1 }
   rounded-up h none =

@@ -20,7 +20,7 @@ use Rattle.floating.proofs.Arithmetic.{sub-mul, double-power}
 use Rattle.floating.proofs.Rounding.{normal-64, room, floor-normal, floor-near, itself-normal, itself-near, itself-carried}
 use Rattle.floating.proofs.Delivering.{judged-word, settled-moved, delivered-zero, delivered-near, delivered-same}
 use Rattle.floating.proofs.Align.{none-joint, some-long}
-use Rattle.floating.proofs.Products.{size-none, size-some, size-fields}
+use Rattle.floating.proofs.Products.{size-none, size-fields}
 use Rattle.floating.proofs.Packing.{Sound, F-sound, fraction-lt, exponent-lt, magnitude-word}
 use Rattle.floating.proofs.Magnitude.{apart, at-most, sized}
 use Rattle.floating.proofs.Refusing.{passed, numbers-passed}

@@ -1,13 +1,13 @@
--- Which results document 02, Q-2 touches. The two rules give different outcomes of an exact number only where it lies below the smallest number and rounds up to it; then the smallest number is delivered in place of an underflow. No sum, no difference and no converted longword is such a number, in any format; a product can be. (A longword made of a format's number is not judged by this rule.) Assumes nothing.
+-- Which results document 02, Q-2 touches. The two rules give different outcomes of an exact number only where it lies below the smallest number and rounds up to it; then the smallest number is delivered in place of an underflow. No sum, no difference and no converted longword is such a number, in any format; a product can be. (A longword made of a format's number is not judged by this rule. Of quotients nothing is said here.) Assumes nothing.
 use mathlib.Core.Path.{_≡_, refl, sym, ap, _∙_}
 use mathlib.Core.Logic.{_⊎_, inl, inr}
 use mathlib.Core.Bool.{Bool, true, false, cond}
 use Prim.Native.Nat.{ℕ, _+_, _-_, _*_, _/_, _^_, _≤_, _<_}
-use native.Mathlib.Nat.{le-of-eq, lt-of-le-of-lt, lt-of-lt-of-le, lt-of-mul-lt-mul-right, eq-zero-or-pos, zero-mul, one-mul, mul-one, mul-assoc, add-mul, mul-le-mul-right, mul-pos, sub-self, sub-eq-zero-of-le, le-of-sub-eq-zero, div-lt-iff-lt-mul}
+use native.Mathlib.Nat.{le-of-eq, lt-of-le-of-lt, lt-of-lt-of-le, lt-of-mul-lt-mul-right, eq-zero-or-pos, zero-mul, one-mul, mul-one, mul-assoc, add-mul, mul-le-mul-right, mul-pos, sub-self, le-of-sub-eq-zero, div-lt-iff-lt-mul}
 use native.Mathlib.Omega.{arith}
 use lib.Dec.{eqb, ltb, lit<}
 use lib.Ieee.{size}
-use lib.Ieee.Digits.{size-lt, size-le}
+use lib.Ieee.Digits.{size-lt}
 use lib.Pow.{pow-pos, pow-mono}
 use borrow.Author.Tests.{eq-eqb, ne-eqb}
 use Rattle.floating.specs.declared.Outcome.{Outcome}
@@ -18,18 +18,30 @@ use Rattle.floating.specs.Round.{places, Rounded, rounded}
 use Rattle.floating.specs.Delivered.{judged, delivered}
 use Rattle.floating.specs.Operations.{sum, difference, product, fromLongword}
 use Rattle.floating.proofs.Arithmetic.{sub-mul}
-use Rattle.floating.proofs.Rounding.{rounded-up, places-counted}
+use Rattle.floating.proofs.Rounding.{no-places, rounded-up, places-counted}
 use Rattle.floating.proofs.Delivering.{judged-word, delivered-zero, delivered-some}
 use Rattle.floating.proofs.Meaning.{delivered-underflow}
 
 -- ---- the rule that was replaced (document 01: "Overflow is judged after rounding, underflow on the normalised exact value before rounding")
+abbrev pub ranged : Format → ℕ → Rounded → Outcome
+ranged f s r =
+    cond (ltb (f .largest) (r .exp)) Overflow
+    (Word (wordOf f s (r .exp) (r .sig - 2 ^ (f .bits - 1))))
+
 abbrev pub deliveredBefore : Format → Exact → Outcome
 deliveredBefore f v =
     let n = v .num * 2 ^ (f .bits + f .excess) in
     cond (eqb (v .num) 0) (Word 0)
     (cond (eqb (places (f .bits) n (v .den)) 0) Underflow
-    (cond (ltb (f .largest) (rounded (f .bits) n (v .den) .exp)) Overflow
-    (Word (wordOf f (v .sign) (rounded (f .bits) n (v .den) .exp) (rounded (f .bits) n (v .den) .sig - 2 ^ (f .bits - 1))))))
+    (ranged f (v .sign) (rounded (f .bits) n (v .den))))
+
+abbrev pub numbers : Format → ℕ → ℕ → Outcome → Outcome
+numbers f a b o =
+    cond (isReserved f a) Reserved
+    (cond (isReserved f b) Reserved o)
+
+abbrev pub bothBefore : Format → (Exact → Exact → Exact) → ℕ → ℕ → Outcome
+bothBefore f op a b = numbers f a b (deliveredBefore f (op (valueOf f a) (valueOf f b)))
 
 -- v lies below the smallest number, which is 2 ^ bits units, by half a unit at most
 pub record RoundsUp (f : Format) (v : Exact) : Type 0 where
@@ -37,21 +49,14 @@ pub record RoundsUp (f : Format) (v : Exact) : Type 0 where
   pub reaches : 2 ^ (f .bits) * (v .den * 2) ≤ v .num * 2 ^ (f .bits + f .excess) * 2 + v .den
 
 module _ (f : Format) (v : Exact) (D : 0 < v .den) where
-  -- in units
+  -- n / den is v in units
   abbrev n : ℕ
   n = v .num * 2 ^ (f .bits + f .excess)
-
-  abbrev ranged : Outcome
-  ranged = cond (ltb (f .largest) (rounded (f .bits) n (v .den) .exp)) Overflow (Word (wordOf f (v .sign) (rounded (f .bits) n (v .den) .exp) (rounded (f .bits) n (v .den) .sig - 2 ^ (f .bits - 1))))
-
-  -- below the smallest number there are no places
-  no-places : n < 2 ^ (f .bits) * v .den → places (f .bits) n (v .den) ≡ 0
-  no-places h = sub-eq-zero-of-le (size-le (n / v .den) (f .bits) (div-lt-iff-lt-mul D .1 h))
 
   before-under : (v .num ≡ 0 → ⊥) → places (f .bits) n (v .den) ≡ 0 → deliveredBefore f v ≡ Underflow
   before-under h g = simp (ne-eqb (v .num) 0 h, eq-eqb (places (f .bits) n (v .den)) 0 g)
 
-  before-some : (v .num ≡ 0 → ⊥) → (places (f .bits) n (v .den) ≡ 0 → ⊥) → deliveredBefore f v ≡ ranged
+  before-some : (v .num ≡ 0 → ⊥) → (places (f .bits) n (v .den) ≡ 0 → ⊥) → deliveredBefore f v ≡ ranged f (v .sign) (rounded (f .bits) n (v .den))
   before-some h g = simp (ne-eqb (v .num) 0 h, ne-eqb (places (f .bits) n (v .den)) 0 g)
 
   pub untouched : (RoundsUp f v → ⊥) → deliveredBefore f v ≡ delivered f v
@@ -77,7 +82,7 @@ module _ (f : Format) (v : Exact) (D : 0 < v .den) where
 
   pub touched : 1 ≤ f .largest → RoundsUp f v → (deliveredBefore f v ≡ Underflow) × (delivered f v ≡ Word (wordOf f (v .sign) 1 0))
   touched top up =
-      let none = no-places (up .below) in (
+      let none = no-places (f .bits) n (v .den) D (up .below) in (
         before-under some none,
         delivered-some f v some
             ∙ ap (λ (x : Rounded). judged f (v .sign) (x .sig) (x .exp)) (rounded-up (f .bits) n (v .den) D (up .reaches) none)
@@ -123,21 +128,12 @@ module _ (f : Format) where
       go false true = at s (a - b) (a * u - b * u) (sub-mul a b u)
       go false false = at t (b - a) (b * u - a * u) (sub-mul b a u)
 
-  abbrev pub bothBefore : (Exact → Exact → Exact) → ℕ → ℕ → Outcome
-  bothBefore op a b =
-      cond (isReserved f a) Reserved
-      (cond (isReserved f b) Reserved
-      (deliveredBefore f (op (valueOf f a) (valueOf f b))))
-
   module _ (a b : ℕ) where
-    abbrev numbers : Outcome → Outcome
-    numbers o = cond (isReserved f a) Reserved (cond (isReserved f b) Reserved o)
+    pub sum-untouched : bothBefore f plus a b ≡ sum f a b
+    sum-untouched = ap (numbers f a b) (together-untouched (signOf f a) (sizeOf f a) (signOf f b) (sizeOf f b) (2 ^ (f .bits + f .excess)) refl)
 
-    pub sum-untouched : bothBefore plus a b ≡ sum f a b
-    sum-untouched = ap numbers (together-untouched (signOf f a) (sizeOf f a) (signOf f b) (sizeOf f b) (2 ^ (f .bits + f .excess)) refl)
-
-    pub difference-untouched : bothBefore minus a b ≡ difference f a b
-    difference-untouched = ap numbers (together-untouched (signOf f a) (sizeOf f a) (1 - signOf f b) (sizeOf f b) (2 ^ (f .bits + f .excess)) refl)
+    pub difference-untouched : bothBefore f minus a b ≡ difference f a b
+    difference-untouched = ap (numbers f a b) (together-untouched (signOf f a) (sizeOf f a) (1 - signOf f b) (sizeOf f b) (2 ^ (f .bits + f .excess)) refl)
 
   pub converted-untouched : (l : ℕ) → deliveredBefore f (longwordValue l) ≡ fromLongword f l
   converted-untouched l = go (ltb l 0x8000_0000)

@@ -1,4 +1,4 @@
--- What an element receives from the floating operations (document 01, "What an element receives"; document 02, Q-1, for division): the value it leaves, and the type bits that VAER records. Definitions only.
+-- What an element receives from the floating operations (document 01, "What an element receives"; document 02, Q-1 for division and Q-2 for underflow): the value it leaves, and the type bits that VAER records. Definitions only.
 use Prim.Native.Nat.{ℕ, _+_, _-_, _%_}
 use mathlib.Core.Bool.{Bool, false, not, cond, _&&_}
 use lib.Dec.{eqb, ltb}

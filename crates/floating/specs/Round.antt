@@ -25,5 +25,6 @@ pub record Rounded : Type 0 where
 abbrev pub carried : ℕ → ℕ → ℕ → Rounded
 carried p r k = cond (ltb r (2 ^ p)) (record { sig = r; exp = k }) (record { sig = 2 ^ (p - 1); exp = k + 1 })
 
+-- to p significant bits where the whole part has p digits or more; where it has fewer, to a whole number, with the exponent 0
 unfoldable pub rounded : ℕ → ℕ → ℕ → Rounded
 rounded p num den = carried p (near num (den * 2 ^ places p num den)) (places p num den)

@@ -29,7 +29,7 @@ sizeAt f k = (2 ^ (f .bits - 1) + k % 2 ^ (f .bits - 1)) * 2 ^ (k / 2 ^ (f .bits
 abbrev pub packed : Format → ℕ → ℕ → ℕ
 packed f e m = e * 2 ^ (f .bits - 1) + (m - 2 ^ (f .bits - 1))
 
--- what is delivered of a number with the exponent field e less down before rounding, which may be below zero, and the rounded significand m
+-- what is delivered of a number whose exponent field before rounding is e less down, which may be below zero, and whose rounded significand is m
 abbrev pub settled : Format → ℕ → ℕ → ℕ → ℕ → Outcome
 settled f s e down m = judged f s (carried (f .bits) m e .sig) (carried (f .bits) m e .exp - down)
 

@@ -22,12 +22,12 @@ pub fn word_of(s: u32, magnitude: u32) -> u32
     word::turned(s * 2147483648 + magnitude)
 }
 
-// The one place where the range is judged, after rounding (document 02, Q-2): the exponent field is e less down before it, and m is the rounded significand.
+// The one place where the range is judged, after rounding (document 02, Q-2): e less down is the exponent field before rounding, and m the rounded significand.
 pub fn deliver(exc: bool, s: u32, e: u32, down: u32, m: u32) -> Answer
     requires { ⌜ (s < 2) × (e < down + 500) × (down < 1000) × (8388608 ≤ m) × (m ≤ 16777216) ⌝ }
     ensures { λ r. ⌜ r ≡ answered exc (settled F s e down m) ⌝ }
 {
-    // m / 16777216 is the carry: a number that rounds up to the exponent 1 is in range.
+    // The carry, m / 16777216, counts: a number that rounds up to the exponent 1 is in range.
     if e + m / 16777216 <= down {
         return Answer {
             value: word::chosen(exc, 0x8001, 0),

@@ -1,4 +1,4 @@
-// F_floating (document 01, "What an element receives"; document 02, Q-1): each function equals a definition of `specs/` for every input.
+// F_floating (document 01, "What an element receives"; document 02, Q-1 and Q-2): each function equals a definition of `specs/` for every input.
 mod convert;
 mod deliver;
 mod order;
