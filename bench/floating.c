@@ -31,13 +31,13 @@ static inline uint32_t multiply(uint32_t a, uint32_t b)
         product <<= 1;
         e--;
     }
-    if (e < 1)
-        return 0;
     uint32_t s = (uint32_t)((product + (1 << 23)) >> 24);
     if (s >> 24) {
         s >>= 1;
         e++;
     }
+    if (e < 1)
+        return 0;
     if (e > 255)
         return 0x8008;
     return ((a ^ b) & 0x8000) | (uint32_t)e << 7 | (s >> 16 & 0x7F) | s << 16;

@@ -1,7 +1,7 @@
 /*
- * The calls of include/kujawian.h in plain C, by document 01 and document 02's Q-1, as one would write
- * them for speed: the switch over the operations outside, the loop over the elements inside. Nothing here
- * is proved. It is what the proved library is timed against, and tests/plain.sh holds it to the
+ * The calls of include/kujawian.h in plain C, by document 01 and document 02's Q-1 and Q-2, as one would
+ * write them for speed: the switch over the operations outside, the loop over the elements inside. Nothing
+ * here is proved. It is what the proved library is timed against, and tests/plain.sh holds it to the
  * independent program.
  *
  * Its calls are named plain_*; compiled with -DSTAND_IN they have the library's own names.
@@ -84,21 +84,21 @@ INLINE uint32_t f_size(uint32_t f) { return f & 0x7FFFFFFFu; }
 INLINE uint64_t f_significand(uint32_t f) { return (f & 0x7FFFFF) | 0x800000; }
 
 /*
- * Rounds and packs a size whose top bit is bit 63 and stands for 2^(e - 129). Underflow is judged
- * before rounding, overflow after it; a carry out of the fraction raises the exponent by itself.
+ * Rounds and packs a size whose top bit is bit 63 and stands for 2^(e - 129), e being -127 to 383. A carry
+ * out of the fraction raises the exponent by itself. Only then is the exponent judged, at both ends
+ * (document 02, Q-2): one below 1 has wrapped to far above 255, so that one test finds either.
  */
 INLINE uint32_t f_pack(uint32_t sign, int e, uint64_t size, bool exc, uint32_t *types)
 {
-    if (__builtin_expect(e < 1, 0)) {
-        if (!exc)
+    const uint32_t smallest = (uint32_t)1 << 23, past_greatest = (uint32_t)256 << 23;
+    const uint32_t rounded = ((uint32_t)(size >> 39) + 1) >> 1;
+    const uint32_t packed = ((uint32_t)(e - 1) << 23) + rounded;
+    if (__builtin_expect(packed - smallest >= past_greatest - smallest, 0)) {
+        if (e < 1 && !exc)
             return 0;
-        *types |= UNDERFLOW;
-        return EXCEPTION | UNDERFLOW;
-    }
-    uint32_t packed = ((uint32_t)(e - 1) << 23) + (uint32_t)(size >> 40) + (uint32_t)(size >> 39 & 1);
-    if (__builtin_expect(packed >> 31, 0)) {
-        *types |= OVERFLOW;
-        return EXCEPTION | OVERFLOW;
+        const uint32_t type = e < 1 ? UNDERFLOW : OVERFLOW;
+        *types |= type;
+        return EXCEPTION | type;
     }
     return turned(sign | packed);
 }

@@ -1,6 +1,6 @@
 /*
- * Kujawian: DEC's VAX vector instructions, as document 01 fixes them, and document 02, Q-1 for
- * division and Q-2 for underflow. The calls of libkujawian.a.
+ * Kujawian: DEC's VAX vector instructions, as document 01 fixes them, and document 02: Q-1 for
+ * division, Q-2 for underflow. The calls of libkujawian.a.
  *
  * Every call is total: it takes any numbers and any lengths, and ends. It returns a number of
  * document 01 and writes what stands beside that number to *beside, always: 0 where document 01

@@ -6,13 +6,15 @@
 //! beside it, all elements, all controls and all memory are compared, guard bytes around every lent
 //! slice too. A queue that is done is put once more, to what it left. The exit status is 1 if anything
 //! differed, or if some number that a call can give, some accepted opcode done, some kind of list, some
-//! kind of division, or some number that only a cut would let through, never came up.
+//! kind of division, some product about the smallest number, or some number that only a cut would let
+//! through, never came up.
 
 use independent::generate::*;
 use independent::machine::*;
 use independent::queue::{accept, first_bad_entry, run, run_order, steps, Queue};
 use independent::random::Random;
 use independent::saved::{load, reading, save, Reading};
+use independent::smallest::Met;
 use independent::vectors::{check, directory, instruction_of, Arithmetic, Result32, F_TABLES, L_TABLES};
 use std::collections::{BTreeMap, BTreeSet};
 use std::process::ExitCode;
@@ -159,6 +161,8 @@ struct Report {
     lists: BTreeMap<&'static str, u64>,
     /// How often each kind of division came up, in an instruction, a queue and a list.
     divisions: BTreeMap<&'static str, u64>,
+    /// The products about the smallest number, in instructions of each form, queues and lists.
+    products: BTreeMap<&'static str, Met>,
     /// How often each number was refused that would be accepted if it were cut.
     wide: BTreeMap<&'static str, u64>,
     differences: u64,
@@ -208,6 +212,9 @@ fn compare_execute(random: &mut Random, cases: u64, report: &mut Report) {
         if decoded.work == Work::DivideF && random.flip() {
             quotients(random, &mut instruction, &mut state);
         }
+        if decoded.work == Work::MultiplyF && random.flip() {
+            small_products(random, &mut instruction, &mut state);
+        }
         let expected = execute(&state, &instruction, &memory);
         let mut lent = LentState::new(&state);
         let mut window = Lent::new(&memory.window, 0xC3);
@@ -239,6 +246,10 @@ fn compare_execute(random: &mut Random, cases: u64, report: &mut Report) {
                 *report.divisions.entry(kind).or_default() += u64::from(written);
             }
         }
+        if decoded.work == Work::MultiplyF && expected.is_ok() {
+            let form = if decoded.scalar_form { "instructions with a scalar" } else { "instructions with registers" };
+            count_products(&fields(decoded.work, &instruction), &state, report.products.entry(form).or_default());
+        }
         report.case("execute", (number, lent.beside), answer(&expected, |_| 0), rest_same, || {
             format!(
                 "{instruction:X?} base {:X} stride {:X} origin {:X} length {}; {}",
@@ -269,6 +280,25 @@ const DIVISIONS_IN_QUEUES: [&str; 5] = [
     "lists refused for the Va of a division alone",
 ];
 
+/// Where products about the smallest number have to come up (document 02, Q-2).
+const PRODUCTS: [&str; 4] = ["instructions with registers", "instructions with a scalar", "queues", "lists"];
+
+/// Counts those of a multiplication that is done on a state.
+fn count_products(multiply: &Decoded, state: &State, met: &mut Met) {
+    for i in (0..64).filter(|&i| is_operated(multiply, state, i)) {
+        let a = if multiply.scalar_form { multiply.scalar } else { state.registers[multiply.va][i] };
+        met.count(a as u32, state.registers[multiply.vb][i] as u32, multiply.exc);
+    }
+}
+
+/// Those of an accepted queue's first instruction, whose operands are the state's own, also by a permitted list.
+fn count_first_products(queue: &Queue, state: &State, met: &mut Met) {
+    let instructions = accept(state, queue).expect("an accepted queue");
+    if let Some(first) = instructions.first().filter(|first| first.work == Work::MultiplyF) {
+        count_products(first, state, met);
+    }
+}
+
 /// The positions of a queue's divisions.
 fn divisions_of(queue: &Queue) -> Vec<usize> {
     (0..queue.opcodes.len()).filter(|&position| work_of(queue.opcodes[position]) == Some(Work::DivideF)).collect()
@@ -280,7 +310,10 @@ fn lend_queue(queue: &Queue) -> (Lent<u8>, Lent<u16>, Lent<u64>) {
 
 fn compare_run(random: &mut Random, cases: u64, report: &mut Report) {
     for _ in 0..cases {
-        let (mut state, queue) = (state(random), any_queue(random));
+        let (mut state, mut queue) = (state(random), any_queue(random));
+        if random.once_in(8) {
+            small_products_first(random, &mut queue, &mut state);
+        }
         let mut lent = LentState::new(&state);
         let (mut opcodes, mut words, mut scalars) = lend_queue(&queue);
         // A second call on what a done one left: 3 where something was recorded.
@@ -306,6 +339,9 @@ fn compare_run(random: &mut Random, cases: u64, report: &mut Report) {
             });
             if expected.is_ok() && state.vlr > 0 && !divisions_of(&queue).is_empty() {
                 *report.divisions.entry("queues done with a division").or_default() += 1;
+            }
+            if expected.is_ok() {
+                count_first_products(&queue, &state, report.products.entry("queues").or_default());
             }
             let Ok(after) = expected else { break };
             state = after;
@@ -362,7 +398,10 @@ fn listed(random: &mut Random) -> (State, Queue) {
 
 fn compare_run_order(random: &mut Random, cases: u64, report: &mut Report) {
     for _ in 0..cases {
-        let (mut state, queue) = listed(random);
+        let (mut state, mut queue) = listed(random);
+        if random.once_in(8) {
+            small_products_first(random, &mut queue, &mut state);
+        }
         let order = list_for(random, &state, &queue);
         let accepted = accept(&state, &queue).is_ok();
         let mut lent = LentState::new(&state);
@@ -400,6 +439,9 @@ fn compare_run_order(random: &mut Random, cases: u64, report: &mut Report) {
                     *report.lists.entry(kind).or_default() += 1;
                 }
                 count_divisions(&state, &queue, &order, &expected, report);
+            }
+            if expected.is_ok() {
+                count_first_products(&queue, &state, report.products.entry("lists").or_default());
             }
             let Ok(after) = expected else { break };
             state = after;
@@ -770,6 +812,14 @@ fn main() -> ExitCode {
         let count = report.divisions.get(kind).copied().unwrap_or(0);
         println!("divisions, {kind}: {count}");
         if count == 0 {
+            missing += 1;
+        }
+    }
+    for place in PRODUCTS {
+        let met = report.products.entry(place).or_default();
+        let least = met.least(&[false, true]);
+        println!("{place}: {met}; each of either sign, EXC clear and set, {least} times or more");
+        if least == 0 {
             missing += 1;
         }
     }

@@ -4,11 +4,13 @@
 //!
 //! For each operation `pairs` operands or pairs of them are drawn (1,000,000 if not said), and each is
 //! put with both settings of EXC, or with the six relations. Then all F rows of the outside vectors go
-//! through the proved library. The exit status is 1 if anything differed.
+//! through the proved library. The exit status is 1 if anything differed, or if some sort of quotient, or of
+//! product about the smallest number, never came up.
 
 use independent::float::F;
-use independent::generate::{f_for_longword, f_pair, f_quotient_pair, longword};
+use independent::generate::{f_for_longword, f_pair, f_quotient_pair, f_small_product_pair, longword};
 use independent::random::Random;
+use independent::smallest::Met;
 use independent::vectors::{check, directory, Arithmetic, Result32, F_TABLES, RELATIONS};
 use std::process::ExitCode;
 
@@ -93,8 +95,26 @@ fn operands(random: &mut Random, table: &str) -> (u32, u32) {
         "CVTLF" => (0, longword(random)),
         // Most of them near the edges of quotients; one in 8 near those of sums and products.
         "DIVF" if !random.once_in(8) => f_quotient_pair(random),
+        "MULF" => factors(random),
         _ => f_pair(random),
     }
+}
+
+/// One in 4 with a product about the smallest number.
+fn factors(random: &mut Random) -> (u32, u32) {
+    if random.once_in(4) {
+        f_small_product_pair(random)
+    } else {
+        f_pair(random)
+    }
+}
+
+/// Prints which products about the smallest number were met. Each sort has to come up (document 02, Q-2).
+fn report_products(table: &str, met: &Met, settings: &[bool], report: &mut Report) {
+    let least = met.least(settings);
+    let exc = if settings.len() == 2 { ", EXC clear and set" } else { "" };
+    println!("{table}: {met}; each of either sign{exc}, {least} times or more");
+    report.differences += u64::from(least == 0);
 }
 
 fn compare_operation(random: &mut Random, table: &str, pairs: u64, report: &mut Report) {
@@ -102,12 +122,16 @@ fn compare_operation(random: &mut Random, table: &str, pairs: u64, report: &mut 
     let settings: &[bool] = if matches!(table, "CMPF" | "CVTLF") { &[false] } else { &[false, true] };
     // How many results were of each kind, so that a run shows that the edges were met.
     let mut kinds = [0u64; 64];
+    let mut met = Met::default();
     for _ in 0..pairs {
         let (a, b) = operands(random, table);
         for &exc in settings {
             for &relation in relations {
                 let (proved, own) = (Proved.work(table, a, b, exc, relation), own(table, a, b, exc, relation));
                 kinds[own.1 as usize] += 1;
+                if table == "MULF" {
+                    met.count(a, b, exc);
+                }
                 report.result(proved == own, || {
                     format!(
                         "{table} {a:08X} {b:08X} EXC {} relation {relation}: proved {:08X} types {:X}, independent {:08X} types {:X}",
@@ -121,6 +145,9 @@ fn compare_operation(random: &mut Random, table: &str, pairs: u64, report: &mut 
         "{table}: {pairs} drawn; quiet {}, underflow {}, reserved operand {}, overflow {}, integer overflow {}",
         kinds[0], kinds[1], kinds[4], kinds[8], kinds[32]
     );
+    if table == "MULF" {
+        report_products(table, &met, settings, report);
+    }
     if table == "DIVF" {
         println!("{table}: divide by zero {}, reserved operand over zero {}", kinds[2], kinds[6]);
         // Every sort of result of Q-1 has to come up.
@@ -136,19 +163,20 @@ fn compare_operation(random: &mut Random, table: &str, pairs: u64, report: &mut 
 /// The batch: EXC clear, the products of as many as the shortest of the three holds; the rest of `out`
 /// keeps what it held.
 fn compare_batch(random: &mut Random, pairs: u64, report: &mut Report) {
-    let mut left = pairs;
+    let (mut left, mut met) = (pairs, Met::default());
     while left > 0 {
         let most = left.min(1_000);
         left -= most;
         let mut length = || most as usize - random.pick(&[0, 0, 1, 7]).min(most) as usize;
         let (na, nb, nout) = (length(), length(), length());
-        let (a, b): (Vec<u32>, Vec<u32>) = (0..most).map(|_| f_pair(random)).unzip();
+        let (a, b): (Vec<u32>, Vec<u32>) = (0..most).map(|_| factors(random)).unzip();
         let kept = random.bits() as u32;
         // Room beyond `nout` must be kept too.
         let mut out = vec![kept; most as usize + 8];
         // SAFETY: each length is at most that of the vector whose pointer stands before it.
         unsafe { kuj_f_multiply_all(a.as_ptr(), na, b.as_ptr(), nb, out.as_mut_ptr(), nout) };
         let products = na.min(nb).min(nout);
+        (0..products).for_each(|i| met.count(a[i], b[i], false));
         for (i, &given) in out.iter().enumerate() {
             let expected = if i < products { own("MULF", a[i], b[i], false, 0).0 } else { kept };
             report.result(given == expected, || {
@@ -157,6 +185,7 @@ fn compare_batch(random: &mut Random, pairs: u64, report: &mut Report) {
         }
     }
     println!("multiply_all: {pairs} drawn");
+    report_products("multiply_all", &met, &[false], report);
 }
 
 fn main() -> ExitCode {

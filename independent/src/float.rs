@@ -1,5 +1,5 @@
 //! Floating-point numbers of the VAX, worked out with whole numbers only (document 01, "What an
-//! element receives"; document 02, Q-1). No machine floating-point type takes part in any result.
+//! element receives"; document 02, Q-1 and Q-2). No machine floating-point type takes part in any result.
 //!
 //! Everything is over a `Format`; only F_floating is made.
 
@@ -157,37 +157,20 @@ impl Format {
         // The exact value is 0.1... * 2^power.
         let digits = exact.size.digits();
         let power = i64::from(digits) + exact.scale;
-        // Underflow: on the normalised exact value, before rounding.
-        if power + self.excess() < 1 {
-            return if exc { self.exception(UNDERFLOW) } else { Outcome { value: 0, types: 0 } };
-        }
         let kept = self.significant_bits();
-        let (significand, exponent) = if digits <= kept {
-            (exact.size.low_64() << (kept - digits), power + self.excess())
+        let nearest = if digits <= kept {
+            exact.size.low_64() << (kept - digits)
         } else {
             let dropped = digits - kept;
             let half = Whole::power_of_two(dropped - 1);
-            let nearest = exact.size.plus(&half).over_power_of_two(dropped).low_64();
-            if nearest == 1 << kept {
-                (nearest / 2, power + 1 + self.excess())
-            } else {
-                (nearest, power + self.excess())
-            }
+            exact.size.plus(&half).over_power_of_two(dropped).low_64()
         };
-        // Overflow: after rounding.
-        if exponent > i64::from(self.greatest_exponent()) {
-            return self.exception(OVERFLOW);
-        }
-        Outcome { value: self.assemble(exact.negative, exponent as u32, significand), types: 0 }
+        self.written(exact.negative, nearest, power, exc)
     }
 
     /// The exact quotient rounded to the format, halves away from zero.
     fn quotient_rounded(&self, quotient: Quotient, exc: bool) -> Outcome {
         let Quotient { negative, numerator, denominator } = quotient;
-        // Underflow: on the exact value, before rounding. The smallest number is 2^-excess.
-        if numerator.times_power_of_two(self.excess() as u32) < denominator {
-            return if exc { self.exception(UNDERFLOW) } else { Outcome { value: 0, types: 0 } };
-        }
         // The exact value is 0.1... * 2^power: below 2^power, and 2^(power - 1) or more. It lies between
         // 2^(digits - 1) and 2^(digits + 1), digits being what the numerator has more of than the denominator.
         let digits = i64::from(numerator.digits()) - i64::from(denominator.digits());
@@ -197,12 +180,19 @@ impl Format {
         let kept = self.significant_bits();
         let (n, d) = over_power(&numerator, &denominator, power - i64::from(kept));
         let nearest = n.plus(&n).plus(&d).over(&d.plus(&d)).low_64();
-        let (significand, exponent) = if nearest == 1 << kept {
-            (nearest / 2, power + 1 + self.excess())
-        } else {
-            (nearest, power + self.excess())
-        };
-        // Overflow: after rounding.
+        self.written(negative, nearest, power, exc)
+    }
+
+    /// What is written for an exact value 0.1... * 2^power that was rounded to `nearest` units of its last place.
+    /// All ones may have carried into one more digit: then it is the next power of two. The exponent is judged
+    /// only after that, at both ends of the range (document 02, Q-2).
+    fn written(&self, negative: bool, nearest: u64, power: i64, exc: bool) -> Outcome {
+        let carried = nearest == 1 << self.significant_bits();
+        let (significand, power) = if carried { (nearest / 2, power + 1) } else { (nearest, power) };
+        let exponent = power + self.excess();
+        if exponent < 1 {
+            return if exc { self.exception(UNDERFLOW) } else { Outcome { value: 0, types: 0 } };
+        }
         if exponent > i64::from(self.greatest_exponent()) {
             return self.exception(OVERFLOW);
         }
@@ -407,13 +397,90 @@ mod tests {
     }
 
     #[test]
-    fn underflow_is_judged_before_rounding() {
-        // The exact product lies just below the smallest number and would round up to it.
-        assert_eq!(F.multiply(0xFFFE_407F, 0x0001_0080, true), f(0x8001, UNDERFLOW));
-        assert_eq!(F.multiply(0xFFFE_407F, 0x0001_0080, false), f(0, 0));
-        // Overflow after rounding: a carry into exponent 256.
+    fn the_exponent_is_judged_after_rounding() {
+        const MINUS: u64 = 0x8000;
+        // Products below the smallest number, 2^47 of these units, that round up to it: FFFFFE times 800001 is
+        // 2^47 - 2 (document 02, Q-2), and F80000 times 842108 is 2^47 - 2^22, half way to the last place below.
+        for (a, b) in [(0xFFFE_407F, 0x0001_0080), (0x4078, 0x2108_0084)] {
+            for exc in [false, true] {
+                for (a, b) in [(a, b), (b, a)] {
+                    assert_eq!(F.multiply(a, b, exc), f(0x0080, 0));
+                    assert_eq!(F.multiply(a | MINUS, b, exc), f(0x8080, 0));
+                    assert_eq!(F.multiply(a, b | MINUS, exc), f(0x8080, 0));
+                    assert_eq!(F.multiply(a | MINUS, b | MINUS, exc), f(0x0080, 0));
+                }
+            }
+        }
+        // Those that stay below: EDF87B times 89B29A is 2^47 - 2^22 - 2, and none lies nearer below half way; FFFFFF
+        // times 800000 is the last place below; and half of the first, which rounds up to half of the smallest number.
+        for (a, b) in [(0xF87B_406D, 0xB29A_0089), (0xFFFF_407F, 0x0080), (0xFFFE_3FFF, 0x0001_0080)] {
+            for a in [a, a | MINUS] {
+                assert_eq!(F.multiply(a, b, true), f(0x8001, UNDERFLOW));
+                assert_eq!(F.multiply(a, b, false), f(0, 0));
+            }
+        }
+        // Overflow: a carry into exponent 256.
         assert_eq!(F.add(0xFFFF_7FFF, 0x7380, true), f(0x8008, OVERFLOW));
         assert_eq!(F.add(0xFFFF_7FFF, 0x7300, true), f(0xFFFF_7FFF, 0));
+    }
+
+    /// Whether n / d lies below half a place above a number, and not more than half a place below it; the place
+    /// below a power of two is half as wide.
+    fn is_nearest(n: u128, d: u128, number: u128, place: u128, power_of_two: bool) -> bool {
+        let below = if power_of_two { place } else { 2 * place };
+        4 * n < (4 * number + 2 * place) * d && 4 * n >= (4 * number - below) * d
+    }
+
+    /// Products about the smallest number, by the plain definition: one more than half a place below that number
+    /// underflows, and of any other the nearest number is given, of two equally near the greater size. Returns how
+    /// many rounded up to the smallest number, and how many underflowed.
+    fn products_about_the_smallest(format: Format, pairs: impl Iterator<Item = (u64, u64)>) -> (u64, u64) {
+        let (digits, excess) = (format.significant_bits(), format.excess() as u32);
+        // In units of the last place of a product whose exponents' sum is excess - 2, the least put here.
+        let smallest = 1u128 << (2 * digits + 2);
+        let last_place_below = smallest >> digits;
+        let (mut rounded_up, mut underflowed) = (0, 0);
+        for (sa, sb) in pairs {
+            for (ea, more) in [1, excess / 2, excess - 3].into_iter().flat_map(|ea| (0..6).map(move |more| (ea, more)))
+            {
+                let exact = u128::from(sa * sb) << more;
+                let a = format.assemble((sa ^ sb) & 1 == 1, ea, sa);
+                let b = format.assemble(false, excess - 2 + more - ea, sb);
+                let (quiet, outcome) = (format.multiply(a, b, false), format.multiply(a, b, true));
+                if 2 * exact < 2 * smallest - last_place_below {
+                    assert_eq!((quiet, outcome), (f(0, 0), f(0x8001, UNDERFLOW)));
+                    underflowed += 1;
+                    continue;
+                }
+                let Operand::Number { negative, exponent, significand } = format.operand(outcome.value) else {
+                    panic!("{outcome:?} is no number");
+                };
+                assert_eq!((outcome.types, quiet, negative), (0, outcome, (sa ^ sb) & 1 == 1));
+                let place = last_place_below << exponent;
+                let power_of_two = significand == 1 << (digits - 1);
+                assert!(is_nearest(exact, 1, u128::from(significand) * place, place, power_of_two));
+                rounded_up += u64::from(exact < smallest);
+            }
+        }
+        (rounded_up, underflowed)
+    }
+
+    #[test]
+    fn products_about_the_smallest_number() {
+        // Every pair of a narrow format with F's exponents and 8 significant bits.
+        let narrow = Format { bits: 16, exponent_bits: 8 };
+        let pairs = (128..256).flat_map(|sa| (128..256).map(move |sb| (sa, sb)));
+        let (rounded_up, underflowed) = products_about_the_smallest(narrow, pairs);
+        assert!(rounded_up > 100 && underflowed > 100_000, "{rounded_up} {underflowed}");
+        // Of F every 509th significand, each with the significands between which half a place below the smallest
+        // number lies, (2^25 - 1) / 2^25 of it, and with those between which that number itself lies.
+        let (top, half_way) = (1u64 << 23, ((1u64 << 25) - 1) << 22);
+        let pairs = (top..2 * top).step_by(509).flat_map(|sa| {
+            let beside = [(half_way - 1) / sa, half_way.div_ceil(sa), ((1 << 47) - 1) / sa, (1u64 << 47).div_ceil(sa)];
+            beside.map(|sb| (sa, sb.clamp(top, 2 * top - 1)))
+        });
+        let (rounded_up, underflowed) = products_about_the_smallest(F, pairs);
+        assert!(rounded_up > 10_000 && underflowed > 100_000, "{rounded_up} {underflowed}");
     }
 
     #[test]
@@ -436,7 +503,7 @@ mod tests {
     }
 
     /// Quotients of a narrow format, by the plain definition: no number of the format is nearer, of two
-    /// equally near the greater size is given, and the ends of the range are where document 01 has them.
+    /// equally near the greater size is given, and both ends of the range are judged after rounding.
     #[test]
     fn quotients_of_a_narrow_format() {
         // 12 significant bits, exponents 1 to 15: only the fraction's top and low digits are varied.
@@ -458,7 +525,10 @@ mod tests {
                         // n / d is the size of the quotient in the units of `size`.
                         let (n, d) = (size(a) * unit_of_one, size(b));
                         let outcome = narrow.divide(a, b, true);
-                        if n < smallest * d {
+                        // More than half a place below the smallest number; no quotient below it is nearer.
+                        let underflows = 2 * n < (2 * smallest - 1) * d;
+                        assert_eq!(underflows, n < smallest * d);
+                        if underflows {
                             assert_eq!(outcome, Outcome { value: 0x8001, types: UNDERFLOW });
                             assert_eq!(narrow.divide(a, b, false), Outcome { value: 0, types: 0 });
                             continue;
@@ -474,12 +544,7 @@ mod tests {
                         else {
                             panic!("{outcome:?} is no negative number");
                         };
-                        // Below half a place above it, and not more than half a place below it; the place below a
-                        // power of two is half as wide.
-                        let (given, place) = (size(outcome.value), 1u128 << exponent);
-                        let below = if significand == top { place } else { 2 * place };
-                        assert!(4 * n < (4 * given + 2 * place) * d);
-                        assert!(4 * n >= (4 * given - below) * d);
+                        assert!(is_nearest(n, d, size(outcome.value), 1 << exponent, significand == top));
                     }
                 }
             }

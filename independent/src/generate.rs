@@ -1,7 +1,7 @@
 //! Edge-biased inputs for comparisons: operands, states, instructions, memory, queues with lists, and
 //! saved files. Everything is a function of the generator it is handed.
 
-use crate::float::F;
+use crate::float::{Operand, F};
 use crate::machine::*;
 use crate::queue::{steps, Place, Queue, Step};
 use crate::random::Random;
@@ -90,6 +90,39 @@ pub fn f_pair(random: &mut Random) -> (u32, u32) {
         8 => (f_operand(random), f_operand(random)),
         _ => (a, f_operand(random)),
     };
+    if random.flip() {
+        (a, b)
+    } else {
+        (b, a)
+    }
+}
+
+/// A factor of a product about the smallest number. With some significands the product can lie exactly half a place
+/// below that number: 2^25 - 1 is 31 * 601 * 1801, which two significands can share in three ways.
+fn small_factor(random: &mut Random) -> u32 {
+    let significand = match random.below(8) {
+        0 => random.pick(&[0xF8_0000, 0x84_2108, 0xE1_2000, 0x91_8E00, 0xDA_1700, 0x96_4000]),
+        _ => significand(random),
+    };
+    number(random.flip(), random.between(1, 128) as i64, significand)
+}
+
+/// The other factor: next to one with which the product would be the smallest number, half a place below it, or
+/// three halves; or the same of half the smallest number.
+fn other_small_factor(random: &mut Random, a: u32) -> u32 {
+    const TOP: u64 = 1 << 23;
+    let Operand::Number { exponent, significand, .. } = F.operand(a.into()) else { panic!("{a:08X} is no number") };
+    // With exponents of 129 together the smallest number is 2^47, and a place below it 2^23.
+    let product = (1u64 << 47) - random.pick(&[0, 1, 1, 3]) * (1 << 22);
+    let reached = product.div_ceil(significand) - random.below(2);
+    let together = random.pick(&[129, 129, 129, 128]);
+    number(random.flip(), together - i64::from(exponent), reached.clamp(TOP, 2 * TOP - 1))
+}
+
+/// Two operands whose product lies about the smallest number, or about half of it.
+pub fn f_small_product_pair(random: &mut Random) -> (u32, u32) {
+    let a = small_factor(random);
+    let b = other_small_factor(random, a);
     if random.flip() {
         (a, b)
     } else {
@@ -379,6 +412,35 @@ pub fn quotients(random: &mut Random, divide: &mut Instruction, state: &mut Stat
         if element == 0 {
             put(&mut divide.scalar, a);
         }
+    }
+}
+
+/// Operands of a multiplication with products about the smallest number: in Va and Vb, if they are two registers, or
+/// for the scalar and in Vb.
+pub fn small_products(random: &mut Random, multiply: &mut Instruction, state: &mut State) {
+    let decoded = fields(Work::MultiplyF, multiply);
+    let put = |slot: &mut u64, low: u32| *slot = *slot >> 32 << 32 | u64::from(low);
+    let mut a = small_factor(random);
+    put(&mut multiply.scalar, a);
+    for element in 0..ELEMENTS {
+        if !decoded.scalar_form {
+            a = small_factor(random);
+            put(&mut state.registers[decoded.va][element], a);
+        }
+        if decoded.scalar_form || decoded.va != decoded.vb {
+            put(&mut state.registers[decoded.vb][element], other_small_factor(random, a));
+        }
+    }
+}
+
+/// The same for a queue, whose first instruction is made a multiplication.
+pub fn small_products_first(random: &mut Random, queue: &mut Queue, state: &mut State) {
+    if let (Some(opcode), Some(&control_word), Some(scalar)) =
+        (queue.opcodes.first_mut(), queue.control_words.first(), queue.scalars.first_mut())
+    {
+        let mut multiply = Instruction { opcode: random.pick(&[0xA4, 0xA5]), control_word, scalar: *scalar };
+        small_products(random, &mut multiply, state);
+        (*opcode, *scalar) = (multiply.opcode, multiply.scalar);
     }
 }
 
@@ -721,8 +783,8 @@ pub fn room(random: &mut Random) -> usize {
 #[cfg(test)]
 mod tests {
     use super::*;
-    use crate::float::Operand;
     use crate::queue::{accept, first_bad_entry, run, run_order};
+    use crate::smallest::{near_smallest, NearSmallest};
     use std::collections::BTreeSet;
 
     /// What a quotient is near to, by its remainders: each of the edges comes up among few pairs.
@@ -793,6 +855,32 @@ mod tests {
             }
         }
         assert_eq!(found.len(), 27, "{found:?}");
+    }
+
+    /// Each place about the smallest number comes up among few pairs, with either sign, and half way too; and there
+    /// the result is the smallest number or underflow, by the place alone.
+    #[test]
+    fn small_product_pairs_reach_the_edges() {
+        let mut random = Random::new(14);
+        let mut found = BTreeSet::new();
+        for _ in 0..20_000 {
+            let (a, b) = f_small_product_pair(&mut random);
+            let Some(place) = near_smallest(a, b) else { continue };
+            let negative = (a ^ b) & 0x8000 != 0;
+            let (quiet, outcome) = (F.multiply(a.into(), b.into(), false), F.multiply(a.into(), b.into(), true));
+            let (smallest, underflow) = (if negative { 0x8080 } else { 0x0080 }, 0x8001);
+            let expected = if place == NearSmallest::RoundedUp { (smallest, 0, smallest) } else { (underflow, 1, 0) };
+            assert_eq!((outcome.value, outcome.types, quiet.value), expected, "{a:08X} {b:08X}");
+            assert_eq!(quiet.types, 0);
+            let (Operand::Number { significand: sa, .. }, Operand::Number { significand: sb, .. }) =
+                (F.operand(a.into()), F.operand(b.into()))
+            else {
+                panic!("numbers");
+            };
+            found.insert((place, negative, sa * sb == (1 << 47) - (1 << 22)));
+        }
+        // Half way rounds up, to the smallest number and to half of it.
+        assert_eq!(found.len(), 2 * (3 + 2), "{found:?}");
     }
 
     #[test]

@@ -105,64 +105,34 @@ fn row(line: &str) -> Option<Row> {
     Some(Row { text: line.into(), a, b, said: [(said(r0)?, s0.into()), (said(r1)?, s1.into())] })
 }
 
-/// Whether the exact product of two numbers lies below the smallest number, 2^-128, in size.
-fn product_is_below_smallest(a: u32, b: u32) -> bool {
-    match (F.operand(a.into()), F.operand(b.into())) {
-        (
-            Operand::Number { exponent: ea, significand: sa, .. },
-            Operand::Number { exponent: eb, significand: sb, .. },
-        ) => {
-            // sa * sb * 2^(ea + eb - 2 * 128 - 2 * 24) < 2^-128, sa * sb having 47 or 48 digits.
-            let limit = 176 - (ea as i32 + eb as i32);
-            limit >= 48 || limit >= 0 && sa * sb < 1 << limit
-        }
-        _ => false,
-    }
-}
-
-/// Whether a row differs from the papers in a way that `vectors/README.md` names.
-#[derive(Clone, Copy, PartialEq, Eq, Debug)]
-enum Known {
-    Same,
-    /// A product below the smallest number that SIMH rounds up to it.
-    BelowSmallest,
-    /// A reserved operand over zero, of which SIMH says only that it is reserved.
-    ReservedOverZero,
-}
-
+/// The one difference that `vectors/README.md` names: a reserved operand over zero, of which SIMH says only that it
+/// is reserved.
 fn is_reserved_over_zero(a: u32, b: u32) -> bool {
     (F.operand(a.into()), F.operand(b.into())) == (Operand::Reserved, Operand::Zero)
 }
 
-/// What documents 01 and 02 make of a row for a setting of EXC (and a relation), and whether that is a
-/// known difference. Of DIVF no row is let off for its underflow: a quotient below the smallest number
-/// lies too far below for rounding to reach that number, so that SIMH's judgement after rounding is
-/// document 01's before it.
-fn expected(table: &str, row: &Row, exc: bool, relation: u32) -> Result<(Result32, Known), String> {
+/// What documents 01 and 02 make of a row for a setting of EXC (and a relation).
+fn expected(table: &str, row: &Row, exc: bool, relation: u32) -> Result<Result32, String> {
     let (said, status) = &row.said[usize::from(exc)];
     let to_longword = matches!(table, "CVTFL" | "CVTRFL");
-    let same = |result| Ok((result, Known::Same));
-    match (said, status.as_str()) {
+    Ok(match (said, status.as_str()) {
         (Said::Order(order), "OK") => {
             let holds = relation_holds(relation, *order).ok_or("a reserved relation")?;
-            same((holds.into(), 0))
+            (holds.into(), 0)
         }
-        (Said::Value(0x0080 | 0x8080), "OK") if table == "MULF" && product_is_below_smallest(row.a, row.b) => {
-            Ok((if exc { (0x8001, UNDERFLOW) } else { (0, 0) }, Known::BelowSmallest))
-        }
-        (Said::Value(value), "OK") => same((*value, 0)),
-        (Said::Value(value), "V") if !exc => same((*value, 0)),
-        (Said::Value(value), "IOV") if exc => same((*value, INTEGER_OVERFLOW)),
-        (_, "OVF") => same((0x8008, OVERFLOW)),
-        (_, "UNF") if exc => same((0x8001, UNDERFLOW)),
-        (Said::Nothing, "DIV") if table == "DIVF" => same((0x8002, DIVIDE_BY_ZERO)),
-        (Said::Nothing, "ROP") if to_longword || table.starts_with("CMP") => same((0, RESERVED_OPERAND)),
+        (Said::Value(value), "OK") => (*value, 0),
+        (Said::Value(value), "V") if !exc => (*value, 0),
+        (Said::Value(value), "IOV") if exc => (*value, INTEGER_OVERFLOW),
+        (_, "OVF") => (0x8008, OVERFLOW),
+        (_, "UNF") if exc => (0x8001, UNDERFLOW),
+        (Said::Nothing, "DIV") if table == "DIVF" => (0x8002, DIVIDE_BY_ZERO),
+        (Said::Nothing, "ROP") if to_longword || table.starts_with("CMP") => (0, RESERVED_OPERAND),
         (Said::Nothing, "ROP") if table == "DIVF" && is_reserved_over_zero(row.a, row.b) => {
-            Ok(((0x8006, DIVIDE_BY_ZERO | RESERVED_OPERAND), Known::ReservedOverZero))
+            (0x8006, DIVIDE_BY_ZERO | RESERVED_OPERAND)
         }
-        (Said::Nothing, "ROP") => same((0x8004, RESERVED_OPERAND)),
-        _ => Err(format!("{table}: no meaning for row {}", row.text)),
-    }
+        (Said::Nothing, "ROP") => (0x8004, RESERVED_OPERAND),
+        _ => return Err(format!("{table}: no meaning for row {}", row.text)),
+    })
 }
 
 /// What a check of some tables found.
@@ -170,9 +140,7 @@ fn expected(table: &str, row: &Row, exc: bool, relation: u32) -> Result<(Result3
 pub struct Findings {
     pub rows: usize,
     pub results: usize,
-    /// Rows where the papers' result is not SIMH's, as `vectors/README.md` says: products below the
-    /// smallest number, and reserved operands over zero.
-    pub below_smallest: usize,
+    /// Rows where the papers' result is not SIMH's, as `vectors/README.md` says.
     pub reserved_over_zero: usize,
     pub differences: Vec<String>,
 }
@@ -182,14 +150,11 @@ pub fn check(directory: &Path, tables: &[&str], arithmetic: &dyn Arithmetic) -> 
     for table in tables {
         for row in rows(directory, table)? {
             found.rows += 1;
-            let mut known = Known::Same;
+            found.reserved_over_zero += usize::from(*table == "DIVF" && is_reserved_over_zero(row.a, row.b));
             let relations: &[u32] = if table.starts_with("CMP") { &RELATIONS } else { &[0] };
             for exc in [false, true] {
                 for &relation in relations {
-                    let (expected, differs) = expected(table, &row, exc, relation)?;
-                    if differs != Known::Same {
-                        known = differs;
-                    }
+                    let expected = expected(table, &row, exc, relation)?;
                     let given = arithmetic.work(table, row.a, row.b, exc, relation);
                     found.results += 1;
                     if given != expected {
@@ -201,8 +166,6 @@ pub fn check(directory: &Path, tables: &[&str], arithmetic: &dyn Arithmetic) -> 
                     }
                 }
             }
-            found.below_smallest += usize::from(known == Known::BelowSmallest);
-            found.reserved_over_zero += usize::from(known == Known::ReservedOverZero);
         }
     }
     Ok(found)
@@ -212,10 +175,9 @@ impl std::fmt::Display for Findings {
     fn fmt(&self, f: &mut std::fmt::Formatter) -> std::fmt::Result {
         write!(
             f,
-            "{} rows, {} results, {} products rounded up to the smallest number, {} reserved operands over zero, {} differ",
+            "{} rows, {} results, {} reserved operands over zero, {} differ",
             self.rows,
             self.results,
-            self.below_smallest,
             self.reserved_over_zero,
             self.differences.len()
         )
@@ -230,6 +192,7 @@ pub fn directory() -> std::path::PathBuf {
 #[cfg(test)]
 mod tests {
     use super::*;
+    use crate::smallest::{near_smallest, NearSmallest};
 
     #[test]
     fn all_rows() {
@@ -239,16 +202,15 @@ mod tests {
         assert_eq!(found.rows, 12 * ROWS);
         // 10 tables of a result a setting, 2 of six relations a setting.
         assert_eq!(found.results, 10 * ROWS * 2 + 2 * ROWS * 12);
-        assert!(found.below_smallest > 0 && found.reserved_over_zero > 0, "the tables hold both known differences");
+        assert!(found.reserved_over_zero > 0, "the tables hold the known difference");
         println!("{found}");
     }
 
-    /// Each known difference has its own table, and a zero divisor is met there with every sort of dividend.
+    /// The known difference is DIVF's alone, and a zero divisor is met there with every sort of dividend.
     #[test]
-    fn known_differences() {
+    fn known_difference() {
         for table in F_TABLES.into_iter().chain(L_TABLES) {
             let found = check(&directory(), &[table], &Own).unwrap();
-            assert_eq!(found.below_smallest > 0, table == "MULF", "{table}");
             assert_eq!(found.reserved_over_zero > 0, table == "DIVF", "{table}");
         }
         let zero_divisors: Vec<Row> = rows(&directory(), "DIVF")
@@ -259,7 +221,7 @@ mod tests {
         for row in &zero_divisors {
             let result = if is_reserved_over_zero(row.a, row.b) { (0x8006, 6) } else { (0x8002, 2) };
             for exc in [false, true] {
-                assert_eq!(expected("DIVF", row, exc, 0).unwrap().0, result, "{}", row.text);
+                assert_eq!(expected("DIVF", row, exc, 0).unwrap(), result, "{}", row.text);
             }
         }
         let with = |dividend: fn(&Operand) -> bool| zero_divisors.iter().any(|row| dividend(&F.operand(row.a.into())));
@@ -284,5 +246,23 @@ mod tests {
         }
         let found = check(&directory(), &["MULF"], &OffByOne).unwrap();
         assert!(!found.differences.is_empty());
+    }
+
+    /// The tables tell underflow judged after rounding from underflow judged before it: 37 products of MULF lie
+    /// below the smallest number and round up to it.
+    #[test]
+    fn underflow_judged_before_rounding_is_found() {
+        struct BeforeRounding;
+        impl Arithmetic for BeforeRounding {
+            fn work(&self, table: &str, a: u32, b: u32, exc: bool, relation: u32) -> Result32 {
+                match near_smallest(a, b) {
+                    Some(NearSmallest::RoundedUp) if table == "MULF" && exc => (0x8001, UNDERFLOW),
+                    Some(NearSmallest::RoundedUp) if table == "MULF" => (0, 0),
+                    _ => Own.work(table, a, b, exc, relation),
+                }
+            }
+        }
+        let found = check(&directory(), &["MULF"], &BeforeRounding).unwrap();
+        assert_eq!(found.differences.len(), 2 * 37);
     }
 }

@@ -1,4 +1,5 @@
-//! Document 02's requests. Q-1: divide in F_floating. Each result is worked out by hand.
+//! Document 02's requests. Q-1: divide in F_floating. Q-2: underflow after rounding. Each result is worked out
+//! by hand.
 
 use independent::machine::*;
 use independent::queue::*;
@@ -13,24 +14,32 @@ fn refused(number: u32, beside: u64) -> Refusal {
     Refusal { number, beside }
 }
 
-/// V1[0] over V2[0] into V3[0], at VLR 1: V3[0], VAER and VPSR afterwards. Only these may change. The
-/// scalar form, with V1 holding something else, has to give the same.
-fn divided(a: u64, b: u64, exc: bool) -> (u64, u64, u64) {
+/// The work of an opcode on V1[0] and V2[0] into V3[0], at VLR 1: V3[0], VAER and VPSR afterwards. Only these
+/// may change. The scalar form, with V1 holding something else, has to give the same.
+fn worked(opcode: u8, a: u64, b: u64, exc: bool) -> (u64, u64, u64) {
     let word = if exc { 0x2123 } else { 0x0123 };
     let mut state = State { vlr: 1, ..State::enabled() };
     (state.registers[1][0], state.registers[2][0]) = (a, b);
-    let after = one(&state, 0xAC, word, 0xC080).unwrap();
+    let after = one(&state, opcode, word, 0xC080).unwrap();
     let left = (after.registers[3][0], after.vaer, after.vpsr);
     let mut expected = state.clone();
     (expected.registers[3][0], expected.vaer, expected.vpsr) = left;
     assert_eq!(after, expected);
     state.registers[1][0] = 0xC080;
-    let with_scalar = one(&state, 0xAD, word, a).unwrap();
+    let with_scalar = one(&state, opcode | 1, word, a).unwrap();
     assert_eq!((with_scalar.registers[3][0], with_scalar.vaer, with_scalar.vpsr), left);
     left
 }
 
-/// A quotient that records nothing: VEN stays.
+fn divided(a: u64, b: u64, exc: bool) -> (u64, u64, u64) {
+    worked(0xAC, a, b, exc)
+}
+
+fn multiplied(a: u64, b: u64, exc: bool) -> (u64, u64, u64) {
+    worked(0xA4, a, b, exc)
+}
+
+/// A result that records nothing: VEN stays.
 fn quiet(value: u64) -> (u64, u64, u64) {
     (value, 0, VEN)
 }
@@ -217,4 +226,77 @@ fn queues_with_division() {
     let after = run(&state, &Queue::of(&[by_zero, half])).unwrap();
     assert_eq!((after.registers[3][0], after.registers[5][0]), (0x8002, 0x4000));
     assert_eq!((after.vaer, after.vpsr), (0x0008_0002, AEX));
+}
+
+/// The units are those in which the smallest number is 2^47: the product of two last places, the exponents
+/// being 129 together.
+#[test]
+fn products_rounded_up_to_the_smallest_number() {
+    const MINUS: u64 = 0x8000;
+    for exc in [false, true] {
+        // Document 02's example: FFFFFE times 800001 is 2^47 - 2.
+        assert_eq!(multiplied(0xFFFE_407F, 0x0001_0080, exc), quiet(0x0080));
+        assert_eq!(multiplied(0x0001_0080, 0xFFFE_407F, exc), quiet(0x0080));
+        assert_eq!(multiplied(0xFFFE_C07F, 0x0001_0080, exc), quiet(0x8080));
+        assert_eq!(multiplied(0xFFFE_407F, 0x0001_8080, exc), quiet(0x8080));
+        assert_eq!(multiplied(0xFFFE_C07F, 0x0001_8080, exc), quiet(0x0080));
+        // F80000 times 842108 is 2^47 - 2^22, half a place below: away from zero.
+        assert_eq!(multiplied(0x4078, 0x2108_0084, exc), quiet(0x0080));
+        assert_eq!(multiplied(0x4078, 0x2108_8084, exc), quiet(0x8080));
+        // The smallest number itself, of exact factors: 1 times it, and 2^-64 times itself.
+        assert_eq!(multiplied(ONE, SMALLEST, exc), quiet(SMALLEST));
+        assert_eq!(multiplied(0x2080, 0x2080, exc), quiet(SMALLEST));
+    }
+    let below = [
+        // EDF87B times 89B29A is 2^47 - 2^22 - 2, next to half way.
+        (0xF87B_406D, 0xB29A_0089),
+        // FFFFFF times 800000 is 2^47 - 2^23, the last place below the smallest number.
+        (0xFFFF_407F, SMALLEST),
+        // Half of document 02's example rounds up to half of the smallest number.
+        (0xFFFE_3FFF, 0x0001_0080),
+        // Document 01's example 6, and the smallest number squared.
+        (SMALLEST, 0x4000),
+        (SMALLEST, SMALLEST),
+    ];
+    for (a, b) in below {
+        for (a, b) in [(a, b), (b, a), (a | MINUS, b)] {
+            assert_eq!(multiplied(a, b, true), exception(1));
+            assert_eq!(multiplied(a, b, false), quiet(0));
+        }
+    }
+}
+
+/// Sums and differences that small are exact, so that nothing rounds up to the smallest number.
+#[test]
+fn small_sums_are_exact() {
+    // Each is a whole number of the smallest number's places, of which that has 800000: the last below it is
+    // FFFFFF less 800000, and the least is one.
+    for (a, b) in [(0xFFFF_00FF, SMALLEST), (0x0001_0080, SMALLEST)] {
+        for exc in [false, true] {
+            let expected = if exc { exception(1) } else { quiet(0) };
+            assert_eq!(worked(0x8C, a, b, exc), expected);
+            assert_eq!(worked(0x8C, b, a, exc), expected);
+            assert_eq!(worked(0x84, a, 0x8000 | b, exc), expected);
+        }
+    }
+    assert_eq!(worked(0x8C, 0x0100, SMALLEST, true), quiet(SMALLEST));
+}
+
+/// VAER gathers underflow from the elements below the smallest number alone.
+#[test]
+fn underflow_among_elements() {
+    let mut state = State { vlr: 3, ..State::enabled() };
+    state.registers[1][..3].copy_from_slice(&[0xFFFE_407F, 0xFFFE_C07F, 0xFFFF_407F]);
+    state.registers[2][..3].copy_from_slice(&[0x0001_0080, 0x0001_0080, SMALLEST]);
+    state.registers[5] = [0x7777_7777_7777_7777; 64];
+    let mut expected = State { vaer: 0x0020_0001, vpsr: AEX, ..state.clone() };
+    for (element, low) in [0x0080, 0x8080, 0x8001].into_iter().enumerate() {
+        expected.registers[5][element] = 0x7777_7777_0000_0000 | low;
+    }
+    assert_eq!(one(&state, 0xA4, 0x2125, 0), Ok(expected));
+    // At VLR 2 nothing is recorded.
+    let state = State { vlr: 2, ..state };
+    let after = one(&state, 0xA4, 0x2125, 0).unwrap();
+    assert_eq!((after.registers[5][0] as u32, after.registers[5][1] as u32), (0x0080, 0x8080));
+    assert_eq!((after.vaer, after.vpsr), (0, VEN));
 }

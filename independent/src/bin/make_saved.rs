@@ -155,11 +155,35 @@ fn runner_inputs() -> Vec<(&'static str, Vec<u8>)> {
         one(0xAC, 0xE316, 0),
         one(0xAD, 0x8020, 0),
     ];
+    // Products about the smallest number: below it and rounded up to it, by 2 of 2^47 units and by half a place; as
+    // little more below half way as can be, by a place, and rounded up to half of it; the number itself.
+    let mut products = State { vlr: 12, vmr: 0x0C3A, ..State::enabled() };
+    let pairs: [(u64, u64); 6] = [
+        (0xFFFE_407F, 0x0001_0080),
+        (0x4078, 0x2108_0084),
+        (0xF87B_406D, 0xB29A_0089),
+        (0xFFFF_407F, 0x0080),
+        (0xFFFE_3FFF, 0x0001_0080),
+        (0x4080, 0x0080),
+    ];
+    for (element, (a, b)) in pairs.into_iter().flat_map(|(a, b)| [(a, b), (b, 0x8000 | a)]).enumerate() {
+        products.registers[1][element] = 0xAAAA_AAAA << 32 | a;
+        products.registers[2][element] = 0xBBBB_BBBB << 32 | b;
+    }
+    products.registers[3] = [0x3333_3333_3333_3333; 64];
+    let multiplications = [
+        one(0xA4, 0x0123, 0),
+        one(0xA4, 0xE124, 0),
+        one(0xA5, 0x0025, 0xFFFE_407F),
+        one(0xA4, 0x2126, 0),
+        one(0xA5, 0xA027, 0x0001_8080),
+    ];
     vec![
         ("example_1", good.clone()),
         ("example_12", input(&example_12, &[one(0x80, 0x2123, 0), one(0x80, 0x2451, 0)])),
         ("sixteen", input(&mixed, &all_sixteen)),
         ("division", input(&quotients, &divisions)),
+        ("small_products", input(&products, &multiplications)),
         ("no_records", input(&example_1, &[])),
         ("bad_file", with(16 * 77 + 2, 1)),
         ("short_file", good[..FILE_BYTES - 3].to_vec()),
