@@ -19,7 +19,7 @@ use Rattle.floating.proofs.Arithmetic.{pow-two}
 use Rattle.floating.proofs.Rounding.{normal-64}
 use Rattle.floating.proofs.Delivering.{delivered-zero, delivered-near}
 use Rattle.floating.proofs.Products.{size-none, size-fields}
-use Rattle.floating.proofs.Packing.{settled-word}
+use Rattle.floating.proofs.Packing.{in-range}
 use Rattle.floating.proofs.Refusing.{number-free}
 
 -- ---- the number made whole, by the exponent
@@ -187,21 +187,26 @@ module _ (exc : Bool) (w : ℕ) where
   by-none = alike (wholeBy 0) chopped (λ a d. ap (λ (z : ℕ). (a * 2 + z) / (d * 2)) (zero-mul d) ∙ ap (λ (z : ℕ). z / (d * 2)) (add-zero (a * 2)) ∙ mul-div-mul-right a d (lit< tt))
 
 -- ---- a whole number as a word
-pub whole-delivered : (s n z y m k w : ℕ) → s < 2 → z < 64 → 9223372036854775808 ≤ n * 2 ^ z → n * 2 ^ z < 18446744073709551616 → y ≡ n * 2 ^ z → m ≡ near y 1099511627776 → 8388608 ≤ m → m ≤ 16777216 → k ≡ packed F (192 - z) m → k < 2147483648 → w ≡ turned (s * 2147483648 + k) → delivered F (whole s n) ≡ Word w
-whole-delivered s n z y m k w hs hz lo hi hy hm mlo mhi hk small hw =
+-- its magnitude is that of a number, in 32 bits
+pub whole-small : (z m k : ℕ) → m ≤ 16777216 → k ≡ packed F (192 - z) m % 4294967296 → (k ≡ packed F (192 - z) m) × (k ≤ 2147483647)
+whole-small z m k hm hk = (omega arith, omega arith)
+
+pub whole-delivered : (s n z y m k w : ℕ) → s < 2 → z < 64 → 9223372036854775808 ≤ n * 2 ^ z → n * 2 ^ z < 18446744073709551616 → y ≡ n * 2 ^ z → m ≡ near y 1099511627776 → 8388608 ≤ m → m ≤ 16777216 → k ≡ packed F (192 - z) m % 4294967296 → w ≡ turned (s * 2147483648 + k) → delivered F (whole s n) ≡ Word w
+whole-delivered s n z y m k w hs hz lo hi hy hm mlo mhi hk hw =
+    let whole = whole-small z m k mhi hk .0 in
     let E : n * 2 ^ 152 * (1 * 2 ^ z) ≡ n * 2 ^ z * 2 ^ 152 * 1 = moved n (2 ^ 152) (2 ^ z) in
     sym
-    (settled-word s 192 z m mlo mhi k (above z hz (m / 16777216)) hk w hs (omega arith) hw
+    (in-range s 192 z m mlo mhi (192 - z) k (back z hz) whole w hs (least z hz m k whole) (whole-small z m k mhi hk .1) hw
     ∙ delivered-near F s n 1 (n * 2 ^ z) 1 40 m 152 z (lit< tt) (lit< tt) (lit< tt) E (normal-64 (n * 2 ^ z) lo hi) (hm ∙ ap (λ (v : ℕ). near v 1099511627776) hy))
   where
-    above : (z : ℕ) → z < 64 → (c : ℕ) → z < 192 + c
-    above z h c = omega arith
+    back : (z : ℕ) → z < 64 → 192 - z + z ≡ 192
+    back z h = omega arith
+
+    least : (z : ℕ) → z < 64 → (m k : ℕ) → k ≡ packed F (192 - z) m → 8388608 ≤ k
+    least z h m k e = omega arith
 
     moved : (a b c : ℕ) → a * b * (1 * c) ≡ a * c * b * 1
     moved a b c = ap (λ (v : ℕ). a * b * v) (one-mul c) ∙ mul-right-comm a b c ∙ sym (mul-one (a * c * b))
-
-pub whole-small : (z m k : ℕ) → m ≤ 16777216 → k ≡ packed F (192 - z) m → k < 2147483648
-whole-small z m k hm hk = omega arith
 
 module _ (l : ℕ) where
   pub longword-none : l ≡ 0 → fromLongword F l ≡ Word 0

@@ -1,10 +1,10 @@
 -- A format's fields fit into its words, and what is put into a word comes out of it. Over the format. Assumes nothing.
 use mathlib.Core.Path.{_≡_, refl, sym, ap, _∙_, subst}
-use mathlib.Core.Bool.{Bool, true, false, not}
+use mathlib.Core.Logic.{_⊎_, inl, inr}
 use Prim.Native.Nat.{ℕ, zero, suc, _+_, _-_, _*_, _/_, _%_, _^_, _≤_, _<_}
-use native.Mathlib.Nat.{sub-zero, sub-eq-zero-of-le, le-of-eq, lt-of-lt-of-le, lt-of-le-of-lt, mul-comm, mul-assoc, add-mul, pow-suc, mod-lt, mod-eq-of-lt, div-add-mod', div-div-eq-div-mul, div-lt-iff-lt-mul, mul-pos}
+use native.Mathlib.Nat.{sub-zero, eq-or-lt-of-le, lt-of-not-le, le-of-eq, lt-of-lt-of-le, lt-of-le-of-lt, mul-comm, mul-assoc, add-mul, pow-suc, mod-lt, mod-eq-of-lt, div-add-mod', div-div-eq-div-mul, div-lt-iff-lt-mul, mul-pos}
 use native.Mathlib.Omega.{arith}
-use lib.Dec.{T, ltb, ltb→lt, nltb→le, lit<, lit≤}
+use lib.Dec.{lit<, lit≤}
 use lib.Arith.{digits-lt, digits-div, digits-mod, mod-mul}
 use lib.Pow.{pow-add, pow-pos, mod-pow-add}
 use Rattle.floating.specs.Format.{Format, F, upward, signOf, exponentOf, fractionOf, wordOf}
@@ -14,7 +14,7 @@ use Rattle.floating.specs.Round.{carried}
 use Rattle.floating.specs.Delivered.{judged}
 use Rattle.floating.specs.Steps.{turned, magnitude, packed, settled}
 use Rattle.floating.proofs.Arithmetic.{double-power}
-use Rattle.floating.proofs.Rounding.{by, carried-in, carry-added}
+use Rattle.floating.proofs.Rounding.{carried-in, carried-steps, carry-added}
 use Rattle.floating.proofs.Delivering.{judged-under, judged-over, judged-word, settled-moved}
 use Rattle.floating.proofs.Products.{size-some}
 
@@ -207,54 +207,81 @@ turned-is s e x hs he hx =
     last s e h l g = omega arith
 
 module _ (s e down m : ℕ) (lo : 8388608 ≤ m) (hi : m ≤ 16777216) where
-  -- the carry, as the code takes it
-  carry-is : (e : ℕ) → carried 24 m e .exp ≡ e + m / 16777216
-  carry-is e = go (ltb m 16777216) (ltb→lt m 16777216) (nltb→le m 16777216)
+  -- a carry adds one to the field, and no more
+  far-below : e < down → Underflow ≡ settled F s e down m
+  far-below h = judged-under F s (carried 24 m e .sig) (carried 24 m e .exp - down) (short (carried 24 m e .exp) (carried-steps 24 m e .1))
     where
-      go : (t : Bool) → (T t → m < 16777216) → (T (not t) → 16777216 ≤ m) → by t 24 m e .exp ≡ e + m / 16777216
-      go true g b = let l : m < 16777216 = g tt in omega arith
-      go false g b = let l : 16777216 ≤ m = b tt in omega arith
+      short : (a : ℕ) → a ≤ e + 1 → a - down ≡ 0
+      short a l = omega arith
 
-  pub settled-under : e + m / 16777216 ≤ down → Underflow ≡ settled F s e down m
-  settled-under h = judged-under F s (carried 24 m e .sig) (carried 24 m e .exp - down) (ap (λ (z : ℕ). z - down) (carry-is e) ∙ sub-eq-zero-of-le h)
+  -- not below zero, with the field i before rounding and the magnitude k
+  module _ (i k : ℕ) (hi' : i + down ≡ e) (hk : k ≡ packed F i m) where
+    told : k ≡ carried 24 m i .exp * 8388608 + (carried 24 m i .sig - 8388608)
+    told = hk ∙ carry-added 24 i m (lit< tt) lo hi
 
-  -- not below the range, with the magnitude k
-  module _ (k : ℕ) (above : down < e + m / 16777216) (hk : k ≡ packed F (e - down) m) where
-    told : k ≡ carried 24 m (e - down) .exp * 8388608 + (carried 24 m (e - down) .sig - 8388608)
-    told = hk ∙ carry-added 24 (e - down) m (lit< tt) lo hi
-
-    below : carried 24 m (e - down) .sig - 8388608 < 8388608
-    below = let b = carried-in 24 m (e - down) (lit< tt) lo in less (carried 24 m (e - down) .sig) (b .0) (b .1)
+    below : carried 24 m i .sig - 8388608 < 8388608
+    below = let b = carried-in 24 m i (lit< tt) lo in less (carried 24 m i .sig) (b .0) (b .1)
       where
         less : (y : ℕ) → 8388608 ≤ y → y < 16777216 → y - 8388608 < 8388608
         less y l h = omega arith
 
-    positive : carried 24 m (e - down) .exp ≡ 0 → ⊥
-    positive z = let c : e - down + m / 16777216 ≡ 0 = sym (carry-is (e - down)) ∙ z in omega arith
-
-    counted : judged F s (carried 24 m (e - down) .sig) (carried 24 m (e - down) .exp) ≡ settled F s e down m
+    counted : judged F s (carried 24 m i .sig) (carried 24 m i .exp) ≡ settled F s e down m
     counted =
-        let reaches : e - down + down ≡ e + 0 = omega arith in
-        ap (λ (z : ℕ). judged F s (carried 24 m (e - down) .sig) z) (sym (sub-zero (carried 24 m (e - down) .exp))) ∙ settled-moved F s (e - down) 0 e down m reaches
+        let back : i + down ≡ e + 0 = omega arith in
+        ap (λ (z : ℕ). judged F s (carried 24 m i .sig) z) (sym (sub-zero (carried 24 m i .exp))) ∙ settled-moved F s i 0 e down m back
 
-    pub settled-over : 2147483647 < k → Overflow ≡ settled F s e down m
-    settled-over h =
-        let a = carried 24 m (e - down) .exp in
-        let x = carried 24 m (e - down) .sig - 8388608 in
-        judged-over F s (carried 24 m (e - down) .sig) a positive (past a x below told) ∙ counted
+    some : 8388608 ≤ k → carried 24 m i .exp ≡ 0 → ⊥
+    some h = at (carried 24 m i .exp) (carried 24 m i .sig - 8388608) below told
       where
-        past : (a x : ℕ) → x < 8388608 → k ≡ a * 8388608 + x → 255 < a
-        past a x l e = omega arith
+        at : (a x : ℕ) → x < 8388608 → k ≡ a * 8388608 + x → a ≡ 0 → ⊥
+        at a x l e z = omega arith
 
-    pub settled-word : (w : ℕ) → s < 2 → k ≤ 2147483647 → w ≡ turned (s * 2147483648 + k) → Word w ≡ settled F s e down m
-    settled-word w hs h hw =
-        let a = carried 24 m (e - down) .exp in
-        let x = carried 24 m (e - down) .sig - 8388608 in
-        let l : a ≤ 255 = within a x told in
-        judged-word F s (carried 24 m (e - down) .sig) a w positive l (hw ∙ ap (λ (z : ℕ). turned (s * 2147483648 + z)) told ∙ turned-is s a x hs l below) ∙ counted
+    low : k < 8388608 → Underflow ≡ settled F s e down m
+    low h = judged-under F s (carried 24 m i .sig) (carried 24 m i .exp) (at (carried 24 m i .exp) (carried 24 m i .sig - 8388608) told) ∙ counted
       where
-        within : (a x : ℕ) → k ≡ a * 8388608 + x → a ≤ 255
-        within a x e = omega arith
+        at : (a x : ℕ) → k ≡ a * 8388608 + x → a ≡ 0
+        at a x e = omega arith
+
+    high : 2147483647 < k → Overflow ≡ settled F s e down m
+    high h = judged-over F s (carried 24 m i .sig) (carried 24 m i .exp) (some (omega arith)) (at (carried 24 m i .exp) (carried 24 m i .sig - 8388608) below told) ∙ counted
+      where
+        at : (a x : ℕ) → x < 8388608 → k ≡ a * 8388608 + x → 255 < a
+        at a x l e = omega arith
+
+    pub in-range : (w : ℕ) → s < 2 → 8388608 ≤ k → k ≤ 2147483647 → w ≡ turned (s * 2147483648 + k) → Word w ≡ settled F s e down m
+    in-range w hs least most hw =
+        let a = carried 24 m i .exp in
+        let x = carried 24 m i .sig - 8388608 in
+        let within : a ≤ 255 = at a x told in
+        judged-word F s (carried 24 m i .sig) a w (some least) within (hw ∙ ap (λ (z : ℕ). turned (s * 2147483648 + z)) told ∙ turned-is s a x hs within below) ∙ counted
+      where
+        at : (a x : ℕ) → k ≡ a * 8388608 + x → a ≤ 255
+        at a x e = omega arith
+
+  -- as the code has them: a field below zero is 512 more
+  module _ (k : ℕ) (near : down ≤ e + 255) (far : e < down + 500) (hk : k ≡ packed F ((e + 512 - down) % 512) m % 4294967296) where
+    -- so one in range is not below zero
+    reached : 8388608 ≤ k → k ≤ 2147483647 → down ≤ e
+    reached a b = omega arith
+
+    whole : down ≤ e → k ≡ packed F (e - down) m
+    whole h = omega arith
+
+    back : down ≤ e → e - down + down ≡ e
+    back h = omega arith
+
+    pub settled-under : e ≤ down → (8388608 ≤ k → k ≤ 2147483647 → ⊥) → Underflow ≡ settled F s e down m
+    settled-under h out = go (eq-or-lt-of-le h)
+      where
+        go : (e ≡ down) ⊎ (e < down) → Underflow ≡ settled F s e down m
+        go (inl z) = low (e - down) k (back (le-of-eq (sym z))) (whole (le-of-eq (sym z))) (lt-of-not-le (λ l. out l (omega arith)))
+        go (inr l) = far-below l
+
+    pub settled-over : down < e → (8388608 ≤ k → k ≤ 2147483647 → ⊥) → Overflow ≡ settled F s e down m
+    settled-over h out = let l : down ≤ e = omega arith in high (e - down) k (back l) (whole l) (lt-of-not-le (out (omega arith)))
+
+    pub settled-word : (w : ℕ) → s < 2 → 8388608 ≤ k → k ≤ 2147483647 → w ≡ turned (s * 2147483648 + k) → Word w ≡ settled F s e down m
+    settled-word w hs least most hw = let l = reached least most in in-range (e - down) k (back l) (whole l) w hs least most hw
 
 -- ---- a word's own fields, packed
 pub magnitude-word : (s w k r : ℕ) → s < 2 → k ≡ magnitude F w → r ≡ turned (s * 2147483648 + k) → r ≡ wordOf F s (exponentOf F w) (fractionOf F w)

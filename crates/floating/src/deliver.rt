@@ -2,17 +2,17 @@
 use crate::Answer;
 use crate::word;
 ghost use mathlib.Core.Path.{_≡_};
-ghost use Prim.Native.Nat.{_+_, _-_, _*_, _<_, _≤_};
+ghost use Prim.Native.Nat.{_+_, _*_, _%_, _<_, _≤_};
 ghost use Rattle.floating.specs.Format.{F};
 ghost use Rattle.floating.specs.Operations.{answered};
 ghost use Rattle.floating.specs.Steps.{turned, packed, settled};
 
-// The exponent field e, and below it the fraction of a rounded significand m. A carry out of the fraction adds one to the field.
+// The exponent field e, and below it the fraction of a rounded significand m, in 32 bits. A carry out of the fraction adds one to the field.
 pub fn packed_of(e: u32, m: u32) -> u32
-    requires { ⌜ (e < 500) × (8388608 ≤ m) × (m ≤ 16777216) ⌝ }
-    ensures { λ r. ⌜ r ≡ packed F e m ⌝ }
+    requires { ⌜ (e < 512) × (8388608 ≤ m) × (m ≤ 16777216) ⌝ }
+    ensures { λ r. ⌜ r ≡ packed F e m % 4294967296 ⌝ }
 {
-    e * 8388608 + (m - 8388608)
+    std::num::wrapping_add_u32(e * 8388608, m - 8388608)
 }
 
 pub fn word_of(s: u32, magnitude: u32) -> u32
@@ -24,19 +24,18 @@ pub fn word_of(s: u32, magnitude: u32) -> u32
 
 // The one place where the range is judged, after rounding (document 02, Q-2): e less down is the exponent field before rounding, and m the rounded significand.
 pub fn deliver(exc: bool, s: u32, e: u32, down: u32, m: u32) -> Answer
-    requires { ⌜ (s < 2) × (e < down + 500) × (down < 1000) × (8388608 ≤ m) × (m ≤ 16777216) ⌝ }
+    requires { ⌜ (s < 2) × (down ≤ e + 255) × (e < down + 500) × (down < 1000) × (8388608 ≤ m) × (m ≤ 16777216) ⌝ }
     ensures { λ r. ⌜ r ≡ answered exc (settled F s e down m) ⌝ }
 {
-    // The carry, m / 16777216, counts: a number that rounds up to the exponent 1 is in range.
-    if e + m / 16777216 <= down {
-        return Answer {
-            value: word::chosen(exc, 0x8001, 0),
-            types: word::chosen(exc, 1, 0),
-        };
-    }
-    let field = e - down;
-    let magnitude = packed_of(field, m);
-    if 2147483647 < magnitude {
+    // A field below zero is 512 more here, and so past the range too; with a carry from the last of them it is 0.
+    let magnitude = packed_of((e + 512 - down) % 512, m);
+    if (magnitude < 8388608) | (2147483647 < magnitude) {
+        if e <= down {
+            return Answer {
+                value: word::chosen(exc, 0x8001, 0),
+                types: word::chosen(exc, 1, 0),
+            };
+        }
         return Answer {
             value: 0x8008,
             types: 8,

@@ -20,7 +20,12 @@ packed-of-requires : tie.Need-packed-of-requires
 packed-of-requires c κs = search needs
 
 word-of-requires : tie.Need-word-of-requires
-word-of-requires c κs = search needs
+word-of-requires c κs =
+    let k = c .packed-of in
+    let m = c .before .near-of in
+    let z = c .before .before .before .zeros-of in
+    let small = whole-small (z .result) (m .result) (k .result) (m .ensures .2) (k .ensures) .1 in
+    search needs
 
 returns : tie.Need-returns
 returns c =
@@ -28,7 +33,7 @@ returns c =
     let m = c .before .before .near-of in
     let z = c .before .before .before .before .zeros-of in
     let d = c .before .before .before .before .before in
-    whole-delivered (d .args .s) (d .args .n) (z .result) (c .before .before .before .raised .result) (m .result) (k .result) (c .word-of .result) (search needs) (z .ensures .0) (z .ensures .1) (z .ensures .2) (c .before .before .before .raised .ensures) (m .ensures .0) (m .ensures .1) (m .ensures .2) (k .ensures) (whole-small (z .result) (m .result) (k .result) (m .ensures .2) (k .ensures)) (c .word-of .ensures)
+    whole-delivered (d .args .s) (d .args .n) (z .result) (c .before .before .before .raised .result) (m .result) (k .result) (c .word-of .result) (search needs) (z .ensures .0) (z .ensures .1) (z .ensures .2) (c .before .before .before .raised .ensures) (m .ensures .0) (m .ensures .1) (m .ensures .2) (k .ensures) (c .word-of .ensures)
 
 pub word-of-size-spec : {M : Type 1} → statement M
 word-of-size-spec =
