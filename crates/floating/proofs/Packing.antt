@@ -1,12 +1,14 @@
 -- A format's fields fit into its words, and what is put into a word comes out of it. Over the format. Assumes nothing.
 use mathlib.Core.Path.{_≡_, refl, sym, ap, _∙_, subst}
 use mathlib.Core.Logic.{_⊎_, inl, inr}
+use mathlib.Core.Bool.{Bool, true, false, _||_}
 use Prim.Native.Nat.{ℕ, zero, suc, _+_, _-_, _*_, _/_, _%_, _^_, _≤_, _<_}
 use native.Mathlib.Nat.{sub-zero, eq-or-lt-of-le, lt-of-not-le, le-of-eq, lt-of-lt-of-le, lt-of-le-of-lt, mul-comm, mul-assoc, add-mul, pow-suc, mod-lt, mod-eq-of-lt, div-add-mod', div-div-eq-div-mul, div-lt-iff-lt-mul, mul-pos}
 use native.Mathlib.Omega.{arith}
-use lib.Dec.{lit<, lit≤}
+use lib.Dec.{ltb, lit<, lit≤}
 use lib.Arith.{digits-lt, digits-div, digits-mod, mod-mul}
 use lib.Pow.{pow-add, pow-pos, mod-pow-add}
+use borrow.Author.Tests.{le-ltb, ltb-false}
 use Rattle.floating.specs.Format.{Format, F, upward, signOf, exponentOf, fractionOf, wordOf}
 use Rattle.floating.specs.declared.Outcome.the-variants.{Word, Overflow, Underflow}
 use Rattle.floating.specs.Exact.{sizeOf}
@@ -205,6 +207,23 @@ turned-is s e x hs he hx =
   where
     last : (s e h l : ℕ) → l < 65536 → l * 65536 + (s * 32768 + e * 128 + h) ≡ s * 32768 + e * 128 + h + (l % 65536 * 1 + 0) * 65536
     last s e h l g = omega arith
+
+-- the two tests of a magnitude
+module _ (k : ℕ) (p q : Bool) (hp : p ≡ ltb k 8388608) (hq : q ≡ ltb 2147483647 k) where
+  pub both-passed : (p || q) ≡ false → (8388608 ≤ k) × (k ≤ 2147483647)
+  both-passed h = let t = parts p q h in (ltb-false k 8388608 (sym hp ∙ t .0), ltb-false 2147483647 k (sym hq ∙ t .1))
+    where
+      parts : (p q : Bool) → (p || q) ≡ false → (p ≡ false) × (q ≡ false)
+      parts true q h = let z : _≡_ {A = ℕ} 0 1 = cc in absurd (omega arith)
+      parts false true h = let z : _≡_ {A = ℕ} 0 1 = cc in absurd (omega arith)
+      parts false false h = (refl, refl)
+
+  pub one-failed : (p || q) ≡ true → 8388608 ≤ k → k ≤ 2147483647 → ⊥
+  one-failed h a b =
+      let x : p ≡ false = hp ∙ le-ltb k 8388608 a in
+      let y : q ≡ false = hq ∙ le-ltb 2147483647 k b in
+      let z : _≡_ {A = ℕ} 0 1 = cc in
+      omega arith
 
 module _ (s e down m : ℕ) (lo : 8388608 ≤ m) (hi : m ≤ 16777216) where
   -- a carry adds one to the field, and no more

@@ -46,15 +46,6 @@ module _ (p q t u : Bool) (x : Outcome) (ht : t ≡ p) (hu : u ≡ q) where
       go false true h = let z : _≡_ {A = ℕ} 0 1 = cc in absurd (omega arith)
       go false false h = refl
 
--- ---- two tests, as the code makes them
-pub neither : (p q : Bool) → (p || q) ≡ false → (p ≡ false) × (q ≡ false)
-neither true q h = let z : _≡_ {A = ℕ} 0 1 = cc in absurd (omega arith)
-neither false true h = let z : _≡_ {A = ℕ} 0 1 = cc in absurd (omega arith)
-neither false false h = (refl, refl)
-
-pub not-neither : (p q : Bool) → (p || q) ≡ true → p ≡ false → q ≡ false → ⊥
-not-neither p q h a b = let z : _≡_ {A = ℕ} 0 1 = cc in omega arith
-
 -- ---- two tests of one word
 pub both-tests : (x y : Bool) → (x && y) ≡ cond x y false
 both-tests true y = refl

@@ -27,9 +27,12 @@ pub fn deliver(exc: bool, s: u32, e: u32, down: u32, m: u32) -> Answer
     requires { ⌜ (s < 2) × (down ≤ e + 255) × (e < down + 500) × (down < 1000) × (8388608 ≤ m) × (m ≤ 16777216) ⌝ }
     ensures { λ r. ⌜ r ≡ answered exc (settled F s e down m) ⌝ }
 {
-    // A field below zero is 512 more here, and so past the range too; with a carry from the last of them it is 0.
-    let magnitude = packed_of((e + 512 - down) % 512, m);
-    if (magnitude < 8388608) | (2147483647 < magnitude) {
+    // A field below zero is 512 more here, so that it lies past the range too; from the last of them a carry leads to 0. One test then finds both ends.
+    let field = (e + 512 - down) % 512;
+    let magnitude = packed_of(field, m);
+    let below = magnitude < 8388608;
+    let above = 2147483647 < magnitude;
+    if below | above {
         if e <= down {
             return Answer {
                 value: word::chosen(exc, 0x8001, 0),
