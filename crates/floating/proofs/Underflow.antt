@@ -43,6 +43,10 @@ numbers f a b o =
 abbrev pub bothBefore : Format → (Exact → Exact → Exact) → ℕ → ℕ → Outcome
 bothBefore f op a b = numbers f a b (deliveredBefore f (op (valueOf f a) (valueOf f b)))
 
+-- both rules deliver the same
+abbrev pub Same : Format → Exact → Type 0
+Same f v = deliveredBefore f v ≡ delivered f v
+
 -- v lies below the smallest number, which is 2 ^ bits units, by half a unit at most
 pub record RoundsUp (f : Format) (v : Exact) : Type 0 where
   pub below : v .num * 2 ^ (f .bits + f .excess) < 2 ^ (f .bits) * v .den
@@ -59,16 +63,22 @@ module _ (f : Format) (v : Exact) (D : 0 < v .den) where
   before-some : (v .num ≡ 0 → ⊥) → (places (f .bits) n (v .den) ≡ 0 → ⊥) → deliveredBefore f v ≡ ranged f (v .sign) (rounded (f .bits) n (v .den))
   before-some h g = simp (ne-eqb (v .num) 0 h, ne-eqb (places (f .bits) n (v .den)) 0 g)
 
-  pub untouched : (RoundsUp f v → ⊥) → deliveredBefore f v ≡ delivered f v
-  untouched never = go (eq-zero-or-pos (v .num)) (eq-zero-or-pos (places (f .bits) n (v .den))) (eq-zero-or-pos (2 ^ (f .bits) * (v .den * 2) - (n * 2 + v .den)))
+  pub untouched : (RoundsUp f v → ⊥) → Same f v
+  untouched never = go (eq-zero-or-pos (v .num)) (eq-zero-or-pos k) (eq-zero-or-pos lacking)
     where
       some : 0 < v .num → v .num ≡ 0 → ⊥
       some h z = omega arith
 
-      go : (v .num ≡ 0) ⊎ (0 < v .num) → (places (f .bits) n (v .den) ≡ 0) ⊎ (0 < places (f .bits) n (v .den)) → (2 ^ (f .bits) * (v .den * 2) - (n * 2 + v .den) ≡ 0) ⊎ (0 < 2 ^ (f .bits) * (v .den * 2) - (n * 2 + v .den)) → deliveredBefore f v ≡ delivered f v
+      -- what it lacks to round up, if anything
+      lacking : ℕ
+      lacking = 2 ^ (f .bits) * (v .den * 2) - (n * 2 + v .den)
+
+      k : ℕ
+      k = places (f .bits) n (v .den)
+
+      go : (v .num ≡ 0) ⊎ (0 < v .num) → (k ≡ 0) ⊎ (0 < k) → (lacking ≡ 0) ⊎ (0 < lacking) → Same f v
       go (inl z) p r = (simp (eq-eqb (v .num) 0 z)) ∙ sym (delivered-zero f v z)
       go (inr h) (inr p) r =
-          let k = places (f .bits) n (v .den) in
           let e = rounded (f .bits) n (v .den) .exp in
           let l : k ≤ e = places-counted (f .bits) n (v .den) D in
           before-some (some h) (λ z. omega arith) ∙ sym (delivered-some f v (some h) ∙ simp (ne-eqb e 0 (λ z. omega arith)))
@@ -86,9 +96,12 @@ module _ (f : Format) (v : Exact) (D : 0 < v .den) where
         before-under some none,
         delivered-some f v some
             ∙ ap (λ (x : Rounded). judged f (v .sign) (x .sig) (x .exp)) (rounded-up (f .bits) n (v .den) D (up .reaches) none)
-            ∙ sym (judged-word f (v .sign) (2 ^ (f .bits - 1)) 1 (wordOf f (v .sign) 1 0) (λ z. omega arith) top (ap (λ (z : ℕ). wordOf f (v .sign) 1 z) (sym (sub-self (2 ^ (f .bits - 1)))))),
+            ∙ sym (judged-word f (v .sign) (2 ^ (f .bits - 1)) 1 (wordOf f (v .sign) 1 0) (λ z. omega arith) top packed),
       )
     where
+      packed : wordOf f (v .sign) 1 0 ≡ wordOf f (v .sign) 1 (2 ^ (f .bits - 1) - 2 ^ (f .bits - 1))
+      packed = ap (λ (z : ℕ). wordOf f (v .sign) 1 z) (sym (sub-self (2 ^ (f .bits - 1))))
+
       some : v .num ≡ 0 → ⊥
       some z =
           let a : n ≡ 0 = ap (λ (y : ℕ). y * 2 ^ (f .bits + f .excess)) z ∙ zero-mul (2 ^ (f .bits + f .excess)) in
@@ -98,7 +111,7 @@ module _ (f : Format) (v : Exact) (D : 0 < v .den) where
 
 -- ---- a whole number of units does not round up
 module _ (f : Format) where
-  units-untouched : (s num den q : ℕ) → 0 < den → num * 2 ^ (f .bits + f .excess) ≡ q * den → deliveredBefore f (record { sign = s; num = num; den = den }) ≡ delivered f (record { sign = s; num = num; den = den })
+  units-untouched : (s num den q : ℕ) → 0 < den → num * 2 ^ (f .bits + f .excess) ≡ q * den → Same f (record { sign = s; num = num; den = den })
   units-untouched s num den q D e = untouched f (record { sign = s; num = num; den = den }) D never
     where
       never : RoundsUp f (record { sign = s; num = num; den = den }) → ⊥
@@ -112,18 +125,19 @@ module _ (f : Format) where
           omega arith
 
   -- two numbers of the format, together
-  together-untouched : (s a t b u : ℕ) → u ≡ 2 ^ (f .bits + f .excess) → deliveredBefore f (together s (a * u) t (b * u) (u * u)) ≡ delivered f (together s (a * u) t (b * u) (u * u))
+  together-untouched : (s a t b u : ℕ) → u ≡ 2 ^ (f .bits + f .excess) → Same f (together s (a * u) t (b * u) (u * u))
   together-untouched s a t b u hu = go (eqb s t) (ltb (b * u) (a * u))
     where
       U : 0 < u
       U = lt-of-lt-of-le (pow-pos (f .bits + f .excess)) (le-of-eq (sym hu))
 
-      at : (s c x : ℕ) → c * u ≡ x → deliveredBefore f (record { sign = s; num = x; den = u * u }) ≡ delivered f (record { sign = s; num = x; den = u * u })
+      of : ℕ → ℕ → Exact
+      of s x = record { sign = s; num = x; den = u * u }
+
+      at : (s c x : ℕ) → c * u ≡ x → Same f (of s x)
       at s c x h = units-untouched s x (u * u) c (mul-pos U U) (ap (λ (z : ℕ). x * z) (sym hu) ∙ ap (λ (z : ℕ). z * u) (sym h) ∙ mul-assoc c u u)
 
-      go : (p q : Bool)
-          → deliveredBefore f (cond p (record { sign = s; num = a * u + b * u; den = u * u }) (cond q (record { sign = s; num = a * u - b * u; den = u * u }) (record { sign = t; num = b * u - a * u; den = u * u })))
-          ≡ delivered f (cond p (record { sign = s; num = a * u + b * u; den = u * u }) (cond q (record { sign = s; num = a * u - b * u; den = u * u }) (record { sign = t; num = b * u - a * u; den = u * u })))
+      go : (p q : Bool) → Same f (cond p (of s (a * u + b * u)) (cond q (of s (a * u - b * u)) (of t (b * u - a * u))))
       go true q = at s (a + b) (a * u + b * u) (add-mul a b u)
       go false true = at s (a - b) (a * u - b * u) (sub-mul a b u)
       go false false = at t (b - a) (b * u - a * u) (sub-mul b a u)
@@ -138,10 +152,10 @@ module _ (f : Format) where
   pub converted-untouched : (l : ℕ) → deliveredBefore f (longwordValue l) ≡ fromLongword f l
   converted-untouched l = go (ltb l 0x8000_0000)
     where
-      at : (s n : ℕ) → deliveredBefore f (whole s n) ≡ delivered f (whole s n)
+      at : (s n : ℕ) → Same f (whole s n)
       at s n = units-untouched s n 1 (n * 2 ^ (f .bits + f .excess)) (lit< tt) (sym (mul-one (n * 2 ^ (f .bits + f .excess))))
 
-      go : (t : Bool) → deliveredBefore f (cond t (whole 0 l) (whole 1 (0x1_0000_0000 - l))) ≡ delivered f (cond t (whole 0 l) (whole 1 (0x1_0000_0000 - l)))
+      go : (t : Bool) → Same f (cond t (whole 0 l) (whole 1 (0x1_0000_0000 - l)))
       go true = at 0 l
       go false = at 1 (0x1_0000_0000 - l)
 

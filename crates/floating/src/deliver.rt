@@ -27,7 +27,7 @@ pub fn deliver(exc: bool, s: u32, e: u32, down: u32, m: u32) -> Answer
     requires { ⌜ (s < 2) × (down ≤ e + 255) × (e < down + 500) × (down < 1000) × (8388608 ≤ m) × (m ≤ 16777216) ⌝ }
     ensures { λ r. ⌜ r ≡ answered exc (settled F s e down m) ⌝ }
 {
-    // A field below zero is 512 more here, so that it lies past the range too; from the last of them a carry leads to 0. One test then finds both ends.
+    // In 9 bits a field below zero is 512 more, and so lies above the range; from the last of these a carry leads to 0. So the magnitude tells both ends.
     let field = (e + 512 - down) % 512;
     let magnitude = packed_of(field, m);
     let below = magnitude < 8388608;
