@@ -86,7 +86,7 @@ INLINE uint64_t f_significand(uint32_t f) { return (f & 0x7FFFFF) | 0x800000; }
 /*
  * Rounds and packs a size whose top bit is bit 63 and stands for 2^(e - 129), e being -127 to 383. A carry
  * out of the fraction raises the exponent by itself. Only then is the exponent judged, at both ends
- * (document 02, Q-2): one below 1 has wrapped to far above 255, so that one test finds either.
+ * (document 02, Q-2): taken less 1, one below 1 wraps to far above the rest, so that one test finds either.
  */
 INLINE uint32_t f_pack(uint32_t sign, int e, uint64_t size, bool exc, uint32_t *types)
 {

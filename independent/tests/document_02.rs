@@ -282,7 +282,7 @@ fn small_sums_are_exact() {
     assert_eq!(worked(0x8C, 0x0100, SMALLEST, true), quiet(SMALLEST));
 }
 
-/// VAER gathers underflow from the elements below the smallest number alone.
+/// VAER gathers underflow only from elements that, rounded, stay below the smallest number.
 #[test]
 fn underflow_among_elements() {
     let mut state = State { vlr: 3, ..State::enabled() };

@@ -282,7 +282,7 @@ pub product-below : worksOut 0xA4 0x2123 0xFFFD407F 0x00010080 ≡ records 0xFFF
 unfolding executedOf accepted instructionOf wholeOf stepsBelow stepOf elementStep operated worked received resultOf written gathered ended notes inRange opcodeOf refused controlWordOf kindOf delivered rounded size
 product-below = refl
 
--- BFFFFD times AAAAAD, 7 more than half a unit below it, rounds to FFFFFF too
+-- BFFFFD times AAAAAD, 2 ^ 47 - 2 ^ 22 - 7, just past half a unit below it, rounds to FFFFFF too
 pub product-past-half : worksOut 0xA4 0x2123 0xFFFD403F 0xAAAD00AA ≡ records 0xFFFD403F 0xAAAD00AA 0x8001 0x00080001
 unfolding executedOf accepted instructionOf wholeOf stepsBelow stepOf elementStep operated worked received resultOf written gathered ended notes inRange opcodeOf refused controlWordOf kindOf delivered rounded size
 product-past-half = refl

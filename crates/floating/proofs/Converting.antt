@@ -19,7 +19,7 @@ use Rattle.floating.proofs.Arithmetic.{pow-two}
 use Rattle.floating.proofs.Rounding.{normal-64}
 use Rattle.floating.proofs.Delivering.{delivered-zero, delivered-near}
 use Rattle.floating.proofs.Products.{size-none, size-fields}
-use Rattle.floating.proofs.Packing.{in-range}
+use Rattle.floating.proofs.Packing.{settled-at}
 use Rattle.floating.proofs.Refusing.{number-free}
 
 -- ---- the number made whole, by the exponent
@@ -193,10 +193,10 @@ whole-small z m k hm hk = (omega arith, omega arith)
 
 pub whole-delivered : (s n z y m k w : ℕ) → s < 2 → z < 64 → 9223372036854775808 ≤ n * 2 ^ z → n * 2 ^ z < 18446744073709551616 → y ≡ n * 2 ^ z → m ≡ near y 1099511627776 → 8388608 ≤ m → m ≤ 16777216 → k ≡ packed F (192 - z) m % 4294967296 → w ≡ turned (s * 2147483648 + k) → delivered F (whole s n) ≡ Word w
 whole-delivered s n z y m k w hs hz lo hi hy hm mlo mhi hk hw =
-    let whole = whole-small z m k mhi hk .0 in
+    let small = whole-small z m k mhi hk in
     let E : n * 2 ^ 152 * (1 * 2 ^ z) ≡ n * 2 ^ z * 2 ^ 152 * 1 = moved n (2 ^ 152) (2 ^ z) in
     sym
-    (in-range s 192 z m mlo mhi (192 - z) k (back z hz) whole w hs (least z hz m k whole) (whole-small z m k mhi hk .1) hw
+    (settled-at s 192 z m mlo mhi (192 - z) k (back z hz) (small .0) w hs (least z hz m k (small .0)) (small .1) hw
     ∙ delivered-near F s n 1 (n * 2 ^ z) 1 40 m 152 z (lit< tt) (lit< tt) (lit< tt) E (normal-64 (n * 2 ^ z) lo hi) (hm ∙ ap (λ (v : ℕ). near v 1099511627776) hy))
   where
     back : (z : ℕ) → z < 64 → 192 - z + z ≡ 192

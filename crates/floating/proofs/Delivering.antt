@@ -72,7 +72,7 @@ module _ (p N D n d k up down : ℕ) (P : 0 < p) (DD : 0 < D) (dd : 0 < d) (E : 
     pub rounded-moved : rounded p N D ≡ carried p (near n (d * 2 ^ k)) j
     rounded-moved = rounded-at p N D P DD j normal-moved ∙ ap (λ (z : ℕ). carried p z j) near-moved
 
--- ---- the judgement, by the tests that the code makes
+-- ---- the judgement, by the exponent field
 module _ (f : Format) (s m e : ℕ) where
   pub judged-under : e ≡ 0 → Underflow ≡ judged f s m e
   judged-under h = simp (eq-eqb e 0 h)
@@ -100,6 +100,13 @@ module _ (f : Format) where
       go true = let g : e - down ≡ e' - down' = omega arith in ap (λ (z : ℕ). judged f s m z) g
       go false = let g : e + 1 - down ≡ e' + 1 - down' = omega arith in ap (λ (z : ℕ). judged f s (2 ^ (f .bits - 1)) z) g
 
+  -- a carry adds one to the field, and no more
+  pub settled-below : (s e down m : ℕ) → e < down → Underflow ≡ settled f s e down m
+  settled-below s e down m h = judged-under f s (carried (f .bits) m e .sig) (carried (f .bits) m e .exp - down) (short (carried (f .bits) m e .exp) (carried-steps (f .bits) m e .1))
+    where
+      short : (a : ℕ) → a ≤ e + 1 → a - down ≡ 0
+      short a l = omega arith
+
   -- What is delivered of num / den may be worked out from n / d, where num / den * 2 ^ (bits + excess) is n / d * 2 ^ up / 2 ^ down.
   pub delivered-near : (s num den n d k m up down : ℕ) → 0 < f .bits → 0 < den → 0 < d → num * 2 ^ (f .bits + f .excess) * (d * 2 ^ down) ≡ n * 2 ^ up * den → Normal (f .bits) n d k → m ≡ near n (d * 2 ^ k)
       → settled f s (k + up) down m ≡ delivered f (record { sign = s; num = num; den = den })
@@ -114,9 +121,6 @@ module _ (f : Format) where
           let b : n * 2 ^ up * den ≡ 0 = sym E ∙ a in
           omega (arith, there)
 
-      no-more : (a e : ℕ) → a ≤ e + 1 → e < down → a - down ≡ 0
-      no-more a e l h = omega arith
-
       N : ℕ
       N = num * 2 ^ (f .bits + f .excess)
 
@@ -129,9 +133,7 @@ module _ (f : Format) where
           ∙ ap (λ (z : ℕ). judged f s (carried (f .bits) m j .sig) z) (sub-zero (carried (f .bits) m j .exp))
           ∙ ap (λ (x : Rounded). judged f s (x .sig) (x .exp)) (sym r)
       go (inr h) =
-          let c = carried-steps (f .bits) m (k + up) .1 in
-          let under : carried (f .bits) m (k + up) .exp - down ≡ 0 = no-more (carried (f .bits) m (k + up) .exp) (k + up) c (omega arith) in
-          sym (judged-under f s (carried (f .bits) m (k + up) .sig) (carried (f .bits) m (k + up) .exp - down) under)
+          sym (settled-below s (k + up) down m (omega arith))
           ∙ judged-under f s (rounded (f .bits) N den .sig) (rounded (f .bits) N den .exp) (none (f .bits) N den n d k up down P DD dd E M (omega arith))
 
   -- equal fractions are delivered alike

@@ -1,14 +1,12 @@
 -- A format's fields fit into its words, and what is put into a word comes out of it. Over the format. Assumes nothing.
 use mathlib.Core.Path.{_≡_, refl, sym, ap, _∙_, subst}
 use mathlib.Core.Logic.{_⊎_, inl, inr}
-use mathlib.Core.Bool.{Bool, true, false, _||_}
 use Prim.Native.Nat.{ℕ, zero, suc, _+_, _-_, _*_, _/_, _%_, _^_, _≤_, _<_}
 use native.Mathlib.Nat.{sub-zero, eq-or-lt-of-le, lt-of-not-le, le-of-eq, lt-of-lt-of-le, lt-of-le-of-lt, mul-comm, mul-assoc, add-mul, pow-suc, mod-lt, mod-eq-of-lt, div-add-mod', div-div-eq-div-mul, div-lt-iff-lt-mul, mul-pos}
 use native.Mathlib.Omega.{arith}
-use lib.Dec.{ltb, lit<, lit≤}
+use lib.Dec.{lit<, lit≤}
 use lib.Arith.{digits-lt, digits-div, digits-mod, mod-mul}
 use lib.Pow.{pow-add, pow-pos, mod-pow-add}
-use borrow.Author.Tests.{le-ltb, ltb-false}
 use Rattle.floating.specs.Format.{Format, F, upward, signOf, exponentOf, fractionOf, wordOf}
 use Rattle.floating.specs.declared.Outcome.the-variants.{Word, Overflow, Underflow}
 use Rattle.floating.specs.Exact.{sizeOf}
@@ -16,8 +14,8 @@ use Rattle.floating.specs.Round.{carried}
 use Rattle.floating.specs.Delivered.{judged}
 use Rattle.floating.specs.Steps.{turned, magnitude, packed, settled}
 use Rattle.floating.proofs.Arithmetic.{double-power}
-use Rattle.floating.proofs.Rounding.{carried-in, carried-steps, carry-added}
-use Rattle.floating.proofs.Delivering.{judged-under, judged-over, judged-word, settled-moved}
+use Rattle.floating.proofs.Rounding.{carried-in, carry-added}
+use Rattle.floating.proofs.Delivering.{judged-under, judged-over, judged-word, settled-moved, settled-below}
 use Rattle.floating.proofs.Products.{size-some}
 
 -- what makes a format's numbers fit together: the fraction fills the word, and the exponents fill their field
@@ -208,33 +206,9 @@ turned-is s e x hs he hx =
     last : (s e h l : ℕ) → l < 65536 → l * 65536 + (s * 32768 + e * 128 + h) ≡ s * 32768 + e * 128 + h + (l % 65536 * 1 + 0) * 65536
     last s e h l g = omega arith
 
--- the two tests of a magnitude
-module _ (k : ℕ) (p q : Bool) (hp : p ≡ ltb k 8388608) (hq : q ≡ ltb 2147483647 k) where
-  pub both-passed : (p || q) ≡ false → (8388608 ≤ k) × (k ≤ 2147483647)
-  both-passed h = let t = parts p q h in (ltb-false k 8388608 (sym hp ∙ t .0), ltb-false 2147483647 k (sym hq ∙ t .1))
-    where
-      parts : (p q : Bool) → (p || q) ≡ false → (p ≡ false) × (q ≡ false)
-      parts true q h = let z : _≡_ {A = ℕ} 0 1 = cc in absurd (omega arith)
-      parts false true h = let z : _≡_ {A = ℕ} 0 1 = cc in absurd (omega arith)
-      parts false false h = (refl, refl)
-
-  pub one-failed : (p || q) ≡ true → 8388608 ≤ k → k ≤ 2147483647 → ⊥
-  one-failed h a b =
-      let x : p ≡ false = hp ∙ le-ltb k 8388608 a in
-      let y : q ≡ false = hq ∙ le-ltb 2147483647 k b in
-      let z : _≡_ {A = ℕ} 0 1 = cc in
-      omega arith
-
 module _ (s e down m : ℕ) (lo : 8388608 ≤ m) (hi : m ≤ 16777216) where
-  -- a carry adds one to the field, and no more
-  far-below : e < down → Underflow ≡ settled F s e down m
-  far-below h = judged-under F s (carried 24 m e .sig) (carried 24 m e .exp - down) (short (carried 24 m e .exp) (carried-steps 24 m e .1))
-    where
-      short : (a : ℕ) → a ≤ e + 1 → a - down ≡ 0
-      short a l = omega arith
-
   -- not below zero, with the field i before rounding and the magnitude k
-  module _ (i k : ℕ) (hi' : i + down ≡ e) (hk : k ≡ packed F i m) where
+  module _ (i k : ℕ) (he : i + down ≡ e) (hk : k ≡ packed F i m) where
     told : k ≡ carried 24 m i .exp * 8388608 + (carried 24 m i .sig - 8388608)
     told = hk ∙ carry-added 24 i m (lit< tt) lo hi
 
@@ -267,8 +241,8 @@ module _ (s e down m : ℕ) (lo : 8388608 ≤ m) (hi : m ≤ 16777216) where
         at : (a x : ℕ) → x < 8388608 → k ≡ a * 8388608 + x → 255 < a
         at a x l e = omega arith
 
-    pub in-range : (w : ℕ) → s < 2 → 8388608 ≤ k → k ≤ 2147483647 → w ≡ turned (s * 2147483648 + k) → Word w ≡ settled F s e down m
-    in-range w hs least most hw =
+    pub settled-at : (w : ℕ) → s < 2 → 8388608 ≤ k → k ≤ 2147483647 → w ≡ turned (s * 2147483648 + k) → Word w ≡ settled F s e down m
+    settled-at w hs least most hw =
         let a = carried 24 m i .exp in
         let x = carried 24 m i .sig - 8388608 in
         let within : a ≤ 255 = at a x told in
@@ -277,8 +251,8 @@ module _ (s e down m : ℕ) (lo : 8388608 ≤ m) (hi : m ≤ 16777216) where
         at : (a x : ℕ) → k ≡ a * 8388608 + x → a ≤ 255
         at a x e = omega arith
 
-  -- as the code has them: a field below zero is 512 more
-  module _ (k : ℕ) (near : down ≤ e + 255) (far : e < down + 500) (hk : k ≡ packed F ((e + 512 - down) % 512) m % 4294967296) where
+  -- as the code has it: a field below zero is 512 more
+  module _ (k : ℕ) (low-most : down ≤ e + 255) (high-most : e < down + 500) (hk : k ≡ packed F ((e + 512 - down) % 512) m % 4294967296) where
     -- so one in range is not below zero
     reached : 8388608 ≤ k → k ≤ 2147483647 → down ≤ e
     reached a b = omega arith
@@ -294,13 +268,13 @@ module _ (s e down m : ℕ) (lo : 8388608 ≤ m) (hi : m ≤ 16777216) where
       where
         go : (e ≡ down) ⊎ (e < down) → Underflow ≡ settled F s e down m
         go (inl z) = low (e - down) k (back (le-of-eq (sym z))) (whole (le-of-eq (sym z))) (lt-of-not-le (λ l. out l (omega arith)))
-        go (inr l) = far-below l
+        go (inr l) = settled-below F s e down m l
 
     pub settled-over : down < e → (8388608 ≤ k → k ≤ 2147483647 → ⊥) → Overflow ≡ settled F s e down m
     settled-over h out = let l : down ≤ e = omega arith in high (e - down) k (back l) (whole l) (lt-of-not-le (out (omega arith)))
 
     pub settled-word : (w : ℕ) → s < 2 → 8388608 ≤ k → k ≤ 2147483647 → w ≡ turned (s * 2147483648 + k) → Word w ≡ settled F s e down m
-    settled-word w hs least most hw = let l = reached least most in in-range (e - down) k (back l) (whole l) w hs least most hw
+    settled-word w hs least most hw = let l = reached least most in settled-at (e - down) k (back l) (whole l) w hs least most hw
 
 -- ---- a word's own fields, packed
 pub magnitude-word : (s w k r : ℕ) → s < 2 → k ≡ magnitude F w → r ≡ turned (s * 2147483648 + k) → r ≡ wordOf F s (exponentOf F w) (fractionOf F w)

@@ -88,7 +88,7 @@ unfoldable pub worth : Rounded → ℕ
 worth x = x .sig * 2 ^ (x .exp)
 
 module _ (p num den : ℕ) (P : 0 < p) (D : 0 < den) where
-  pub normal-places : Enough p num den → Normal p num den (places p num den)
+  normal-places : Enough p num den → Normal p num den (places p num den)
   normal-places h =
       let w = num / den in
       let z = size w in
@@ -103,7 +103,7 @@ module _ (p num den : ℕ) (P : 0 < p) (D : 0 < den) where
       }
 
   -- the one k
-  pub places-only : (k : ℕ) → Normal p num den k → places p num den ≡ k
+  places-only : (k : ℕ) → Normal p num den k → places p num den ≡ k
   places-only k h =
       let w = num / den in
       let lo : 2 ^ (p - 1 + k) ≤ w = le-div-iff-mul-le D .1 (le-trans (le-of-eq (sym (shuffle den k (p - 1) (p - 1 + k) refl))) (h .low)) in

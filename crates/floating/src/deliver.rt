@@ -27,12 +27,11 @@ pub fn deliver(exc: bool, s: u32, e: u32, down: u32, m: u32) -> Answer
     requires { ⌜ (s < 2) × (down ≤ e + 255) × (e < down + 500) × (down < 1000) × (8388608 ≤ m) × (m ≤ 16777216) ⌝ }
     ensures { λ r. ⌜ r ≡ answered exc (settled F s e down m) ⌝ }
 {
-    // In 9 bits a field below zero is 512 more, and so lies above the range; from the last of these a carry leads to 0. So the magnitude tells both ends.
-    let field = (e + 512 - down) % 512;
-    let magnitude = packed_of(field, m);
-    let below = magnitude < 8388608;
-    let above = 2147483647 < magnitude;
-    if below | above {
+    // Below zero the field is 512 more, far above the range; a carry from -1 leads to the magnitude 0.
+    let magnitude = packed_of((e + 512 - down) % 512, m);
+    // Counted from the smallest number, what is below it lies above too: one test finds both ends, and e and down tell which it is.
+    let past = std::num::wrapping_sub_u32(magnitude, 8388608);
+    if 2139095039 < past {
         if e <= down {
             return Answer {
                 value: word::chosen(exc, 0x8001, 0),

@@ -155,8 +155,8 @@ fn runner_inputs() -> Vec<(&'static str, Vec<u8>)> {
         one(0xAC, 0xE316, 0),
         one(0xAD, 0x8020, 0),
     ];
-    // Products about the smallest number: below it and rounded up to it, by 2 of 2^47 units and by half a place; as
-    // little more below half way as can be, by a place, and rounded up to half of it; the number itself.
+    // Products about the smallest number, 2^47 units: 2 units and half a place below it, which round up to it; 2 units
+    // below half way, a place below it, and one that rounds up to half of it, which underflow; the number itself.
     let mut products = State { vlr: 12, vmr: 0x0C3A, ..State::enabled() };
     let pairs: [(u64, u64); 6] = [
         (0xFFFE_407F, 0x0001_0080),
