@@ -1,53 +1,20 @@
 -- Document 01, "Control moves": VLR, VCR and each half of VMR are read and written by calls of their own; VAER and VPSR are read, VPSR is written.
 -- Order of checks: 12, 3, 11. VPSR and VAER are read even when disabled, and a VPSR write is never refused as disabled.
-use mathlib.Core.Bool.{Bool, true, false, _&&_, _||_}
+use mathlib.Core.Bool.{Bool, true, _&&_, _||_}
 use Prim.Native.Nat.{ℕ, _+_, _*_, _/_, _%_, _^_}
 use lib.Dec.{leb, eqb}
 use Rattle.numbers.specs.Choice.{pick}
 use Rattle.numbers.specs.Bits.{bit, withoutBit}
 use Rattle.numbers.specs.Halves.{low, high, withLow, withHigh}
 use Rattle.state.specs.declared.Control.{Control}
-use Rattle.state.specs.Answer.{Answer, done, disabled, valueRefused, outOfRange}
+use Rattle.state.specs.declared.answer.Answer.{Answer}
+use Rattle.state.specs.declared.answer.Answer.the-variants.{Done, Disabled, ValueRefused, OutOfRange}
+use Rattle.state.specs.Outcome.{Outcome, outcome, refused}
 use Rattle.state.specs.State.{inRange, enabled, lengthInRange}
-use Rattle.control.specs.declared.Read.{Read}
-use Rattle.control.specs.declared.Read.the-variants as read
-use Rattle.control.specs.declared.Write.{Write}
-use Rattle.control.specs.declared.Write.the-variants as write
-use Rattle.control.specs.declared.Written.{Written}
-
--- ---- the numbers of the answers
-abbrev pub readAnswer : Read → Answer
-readAnswer (read.Value v) = done v
-readAnswer read.StateOutOfRange = outOfRange
-readAnswer read.Disabled = disabled
-
-abbrev pub writeAnswer : Write → Answer
-writeAnswer write.Done = done 0
-writeAnswer write.StateOutOfRange = outOfRange
-writeAnswer write.Disabled = disabled
-writeAnswer write.ValueRefused = valueRefused
-
--- a write that was done, and not refused
-abbrev pub isDone : Write → Bool
-isDone write.Done = true
-isDone write.StateOutOfRange = false
-isDone write.Disabled = false
-isDone write.ValueRefused = false
-
--- what a write gives back, and the record it leaves
-pub record Outcome : Type 0 where
-  pub answer : Answer
-  pub control : Control
-
-abbrev pub outcome : Answer → Control → Outcome
-outcome a c = record { answer = a; control = c }
-
-abbrev pub outcomeOf : Written → Outcome
-outcomeOf w = outcome (writeAnswer (w .answer)) (w .control)
 
 -- ---- reading a value: refused where the move is not allowed in the processor's present state
 unfoldable pub readWhen : Bool → Control → ℕ → Answer
-readWhen allowed c v = pick (inRange c) (pick allowed (done v) disabled) outOfRange
+readWhen allowed c v = pick (inRange c) (pick allowed (Done v) Disabled) OutOfRange
 
 abbrev pub readEnabled : Control → ℕ → Answer
 readEnabled c v = readWhen (enabled c) c v
@@ -71,37 +38,37 @@ abbrev pub vpsrRead : Control → Answer
 vpsrRead c = readWhen true c (c .vpsr)
 
 -- ---- writing: the record next takes the place of c, unless the move or the value is refused
-unfoldable pub writeWhen : Bool → Bool → Control → Control → Outcome
+unfoldable pub writeWhen : Bool → Bool → Control → Control → Outcome Control
 writeWhen allowed accepted c next =
     pick (inRange c)
     (pick allowed
-    (pick accepted (outcome (done 0) next) (outcome valueRefused c))
-    (outcome disabled c))
-    (outcome outOfRange c)
+    (pick accepted (outcome (Done 0) next) (refused ValueRefused c))
+    (refused Disabled c))
+    (refused OutOfRange c)
 
-abbrev pub writeEnabled : Bool → Control → Control → Outcome
+abbrev pub writeEnabled : Bool → Control → Control → Outcome Control
 writeEnabled accepted c next = writeWhen (enabled c) accepted c next
 
 -- VLR or VCR above 64 gets 11
 abbrev pub withVlr : Control → ℕ → Control
 withVlr c v = record { vlr = v; vmr = c .vmr; vcr = c .vcr; vaer = c .vaer; vpsr = c .vpsr }
 
-abbrev pub vlrWritten : Control → ℕ → Outcome
+abbrev pub vlrWritten : Control → ℕ → Outcome Control
 vlrWritten c v = writeEnabled (lengthInRange v) c (withVlr c v)
 
 abbrev pub withVcr : Control → ℕ → Control
 withVcr c v = record { vlr = c .vlr; vmr = c .vmr; vcr = v; vaer = c .vaer; vpsr = c .vpsr }
 
-abbrev pub vcrWritten : Control → ℕ → Outcome
+abbrev pub vcrWritten : Control → ℕ → Outcome Control
 vcrWritten c v = writeEnabled (lengthInRange v) c (withVcr c v)
 
 abbrev pub withVmr : Control → ℕ → Control
 withVmr c v = record { vlr = c .vlr; vmr = v; vcr = c .vcr; vaer = c .vaer; vpsr = c .vpsr }
 
-abbrev pub vmrLowWritten : Control → ℕ → Outcome
+abbrev pub vmrLowWritten : Control → ℕ → Outcome Control
 vmrLowWritten c v = writeEnabled true c (withVmr c (withLow (c .vmr) v))
 
-abbrev pub vmrHighWritten : Control → ℕ → Outcome
+abbrev pub vmrHighWritten : Control → ℕ → Outcome Control
 vmrHighWritten c v = writeEnabled true c (withVmr c (withHigh (c .vmr) v))
 
 -- ---- VPSR
@@ -128,9 +95,9 @@ afterAex c v = pick (bit v 7) (withStatus c 0 (withoutBit (c .vpsr) 7)) c
 abbrev pub afterVen : Control → ℕ → Control
 afterVen c v = withStatus c (c .vaer) (c .vpsr / 2 * 2 + v % 2)
 
-unfoldable pub withVpsr : Control → ℕ → Control
-withVpsr c v = afterVen (afterAex (afterReset c v) v) v
+unfoldable pub vpsrTaken : Control → ℕ → Control
+vpsrTaken c v = afterVen (afterAex (afterReset c v) v) v
 
 -- bits 2, 3, 5, 6, 24, 25 and 31 have no effect
-abbrev pub vpsrWritten : Control → ℕ → Outcome
-vpsrWritten c v = writeWhen true (vpsrAccepted v) c (withVpsr c v)
+abbrev pub vpsrWritten : Control → ℕ → Outcome Control
+vpsrWritten c v = writeWhen true (vpsrAccepted v) c (vpsrTaken c v)

@@ -1,167 +1,129 @@
 // Control moves: the control record goes in by value, and a write gives it back.
 ghost use mathlib.Core.Path.{_≡_};
-ghost use Rattle.control.specs.Moves.{readAnswer, isDone, outcomeOf, readWhen, readEnabled, writeWhen, writeEnabled, vlrRead, vcrRead, vmrLowRead, vmrHighRead, vaerRead, vpsrRead, vlrWritten, vcrWritten, vmrLowWritten, vmrHighWritten, vpsrAccepted, withStatus, afterReset, afterAex, afterVen, withVpsr, vpsrWritten};
+ghost use Rattle.state.specs.Outcome.{outcome};
+ghost use Rattle.control.specs.Moves.{readWhen, readEnabled, writeWhen, writeEnabled, vlrRead, vcrRead, vmrLowRead, vmrHighRead, vaerRead, vpsrRead, vlrWritten, vcrWritten, vmrLowWritten, vmrHighWritten, vpsrAccepted, withStatus, afterReset, afterAex, afterVen, vpsrTaken, vpsrWritten};
 use numbers::halves;
 use state::Control;
-
-// What a read gives back.
-pub enum Read {
-    Value(u64),
-    StateOutOfRange,
-    Disabled,
-}
-
-// What a write gives back.
-pub enum Write {
-    Done,
-    StateOutOfRange,
-    Disabled,
-    ValueRefused,
-}
-
-// A write was done, and not refused.
-pub fn is_done(given: Write) -> bool
-    ensures { λ r. ⌜ r ≡ isDone given ⌝ }
-{
-    match given {
-        Write::Done => true,
-        Write::StateOutOfRange => false,
-        Write::Disabled => false,
-        Write::ValueRefused => false,
-    }
-}
-
-// The answer of a write, and the record after it.
-pub struct Written {
-    pub answer: Write,
-    pub control: Control,
-}
+use state::answer;
+use state::answer::Answer;
+use state::answer::Ended;
 
 // A read, refused where the processor's present state does not allow it.
-fn read_when(readable: bool, control: Control, value: u64) -> Read
-    ensures { λ r. ⌜ readAnswer r ≡ readWhen readable control value ⌝ }
+fn read_when(readable: bool, control: Control, value: u64) -> Answer
+    ensures { λ r. ⌜ r ≡ readWhen readable control value ⌝ }
 {
     if state::in_range(control) {
         if readable {
-            Read::Value(value)
+            Answer::Done(value)
         } else {
-            Read::Disabled
+            Answer::Disabled
         }
     } else {
-        Read::StateOutOfRange
+        Answer::OutOfRange
     }
 }
 
 // A read that is refused while the processor is disabled.
-fn read_enabled(control: Control, value: u64) -> Read
-    ensures { λ r. ⌜ readAnswer r ≡ readEnabled control value ⌝ }
+fn read_enabled(control: Control, value: u64) -> Answer
+    ensures { λ r. ⌜ r ≡ readEnabled control value ⌝ }
 {
     read_when(state::enabled(control), control, value)
 }
 
-pub fn read_vlr(control: Control) -> Read
-    ensures { λ r. ⌜ readAnswer r ≡ vlrRead control ⌝ }
+pub fn read_vlr(control: Control) -> Answer
+    ensures { λ r. ⌜ r ≡ vlrRead control ⌝ }
 {
     read_enabled(control, control.vlr)
 }
 
-pub fn read_vcr(control: Control) -> Read
-    ensures { λ r. ⌜ readAnswer r ≡ vcrRead control ⌝ }
+pub fn read_vcr(control: Control) -> Answer
+    ensures { λ r. ⌜ r ≡ vcrRead control ⌝ }
 {
     read_enabled(control, control.vcr)
 }
 
-pub fn read_vmr_low(control: Control) -> Read
-    ensures { λ r. ⌜ readAnswer r ≡ vmrLowRead control ⌝ }
+pub fn read_vmr_low(control: Control) -> Answer
+    ensures { λ r. ⌜ r ≡ vmrLowRead control ⌝ }
 {
     read_enabled(control, halves::low(control.vmr))
 }
 
-pub fn read_vmr_high(control: Control) -> Read
-    ensures { λ r. ⌜ readAnswer r ≡ vmrHighRead control ⌝ }
+pub fn read_vmr_high(control: Control) -> Answer
+    ensures { λ r. ⌜ r ≡ vmrHighRead control ⌝ }
 {
     read_enabled(control, halves::high(control.vmr))
 }
 
-pub fn read_vaer(control: Control) -> Read
-    ensures { λ r. ⌜ readAnswer r ≡ vaerRead control ⌝ }
+pub fn read_vaer(control: Control) -> Answer
+    ensures { λ r. ⌜ r ≡ vaerRead control ⌝ }
 {
     read_when(true, control, control.vaer)
 }
 
-pub fn read_vpsr(control: Control) -> Read
-    ensures { λ r. ⌜ readAnswer r ≡ vpsrRead control ⌝ }
+pub fn read_vpsr(control: Control) -> Answer
+    ensures { λ r. ⌜ r ≡ vpsrRead control ⌝ }
 {
     read_when(true, control, control.vpsr)
 }
 
 // A write: next takes the place of control, unless the processor's present state does not allow it
 // or the value is refused.
-fn write_when(writable: bool, accepted: bool, control: Control, next: Control) -> Written
-    ensures { λ r. ⌜ outcomeOf r ≡ writeWhen writable accepted control next ⌝ }
+fn write_when(writable: bool, accepted: bool, control: Control, next: Control) -> Ended
+    ensures { λ r. ⌜ outcome (r .answer) (r .control) ≡ writeWhen writable accepted control next ⌝ }
 {
     if state::in_range(control) {
         if writable {
             if accepted {
-                Written {
-                    answer: Write::Done,
+                Ended {
+                    answer: Answer::Done(0),
                     control: next,
                 }
             } else {
-                Written {
-                    answer: Write::ValueRefused,
-                    control,
-                }
+                answer::refused(Answer::ValueRefused, control)
             }
         } else {
-            Written {
-                answer: Write::Disabled,
-                control,
-            }
+            answer::refused(Answer::Disabled, control)
         }
     } else {
-        Written {
-            answer: Write::StateOutOfRange,
-            control,
-        }
+        answer::refused(Answer::OutOfRange, control)
     }
 }
 
 // A write that is refused while the processor is disabled.
-fn write_enabled(accepted: bool, control: Control, next: Control) -> Written
-    ensures { λ r. ⌜ outcomeOf r ≡ writeEnabled accepted control next ⌝ }
+fn write_enabled(accepted: bool, control: Control, next: Control) -> Ended
+    ensures { λ r. ⌜ outcome (r .answer) (r .control) ≡ writeEnabled accepted control next ⌝ }
 {
     write_when(state::enabled(control), accepted, control, next)
 }
 
 // The values of VLR and VCR come in as wide as the record keeps them, so that they are tested before
 // anything is cut off.
-pub fn write_vlr(control: Control, vlr: u64) -> Written
-    ensures { λ r. ⌜ outcomeOf r ≡ vlrWritten control vlr ⌝ }
+pub fn write_vlr(control: Control, vlr: u64) -> Ended
+    ensures { λ r. ⌜ outcome (r .answer) (r .control) ≡ vlrWritten control vlr ⌝ }
 {
     let mut next = control;
     next.vlr = vlr;
     write_enabled(state::length_in_range(vlr), control, next)
 }
 
-pub fn write_vcr(control: Control, vcr: u64) -> Written
-    ensures { λ r. ⌜ outcomeOf r ≡ vcrWritten control vcr ⌝ }
+pub fn write_vcr(control: Control, vcr: u64) -> Ended
+    ensures { λ r. ⌜ outcome (r .answer) (r .control) ≡ vcrWritten control vcr ⌝ }
 {
     let mut next = control;
     next.vcr = vcr;
     write_enabled(state::length_in_range(vcr), control, next)
 }
 
-pub fn write_vmr_low(control: Control, value: u32) -> Written
-    ensures { λ r. ⌜ outcomeOf r ≡ vmrLowWritten control value ⌝ }
+pub fn write_vmr_low(control: Control, value: u32) -> Ended
+    ensures { λ r. ⌜ outcome (r .answer) (r .control) ≡ vmrLowWritten control value ⌝ }
 {
     let mut next = control;
     next.vmr = halves::with_low(control.vmr, value);
     write_enabled(true, control, next)
 }
 
-pub fn write_vmr_high(control: Control, value: u32) -> Written
-    ensures { λ r. ⌜ outcomeOf r ≡ vmrHighWritten control value ⌝ }
+pub fn write_vmr_high(control: Control, value: u32) -> Ended
+    ensures { λ r. ⌜ outcome (r .answer) (r .control) ≡ vmrHighWritten control value ⌝ }
 {
     let mut next = control;
     next.vmr = halves::with_high(control.vmr, value);
@@ -219,16 +181,16 @@ fn after_ven(control: Control, v: u64) -> Control
     with_status(control, control.vaer, control.vpsr / 2 * 2 + v % 2)
 }
 
-// The record after VPSR was written.
-fn with_vpsr(control: Control, v: u64) -> Control
-    ensures { λ r. ⌜ r ≡ withVpsr control v ⌝ }
+// The record once VPSR has taken a value.
+fn vpsr_taken(control: Control, v: u64) -> Control
+    ensures { λ r. ⌜ r ≡ vpsrTaken control v ⌝ }
 {
     after_ven(after_aex(after_reset(control, v), v), v)
 }
 
-pub fn write_vpsr(control: Control, value: u32) -> Written
-    ensures { λ r. ⌜ outcomeOf r ≡ vpsrWritten control value ⌝ }
+pub fn write_vpsr(control: Control, value: u32) -> Ended
+    ensures { λ r. ⌜ outcome (r .answer) (r .control) ≡ vpsrWritten control value ⌝ }
 {
     let v = value as u64;
-    write_when(true, vpsr_accepted(v), control, with_vpsr(control, v))
+    write_when(true, vpsr_accepted(v), control, vpsr_taken(control, v))
 }

@@ -1,4 +1,4 @@
 -- Laws of works.
-pub mod Codes
+pub mod Groups
 pub mod Opposites
 pub mod Types

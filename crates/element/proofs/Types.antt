@@ -1,26 +1,27 @@
 -- The types that an element records are VAER's own bits. Assumes nothing.
 use mathlib.Core.Path.{_≡_, refl}
-use mathlib.Core.Bool.{Bool, true, false, cond, _&&_}
-use Prim.Native.Nat.{ℕ, _%_}
+use mathlib.Core.Bool.{Bool, true, false, _&&_}
+use Prim.Native.Nat.{ℕ}
+use lib.IntN.{ℤ}
 use lib.Dec.{eqb}
 use Rattle.numbers.specs.Choice.{pick}
 use Rattle.numbers.specs.Halves.{low}
-use Rattle.numbers.specs.Signed.{overflows}
+use Rattle.numbers.specs.Relation.{relationHolds}
+use Rattle.numbers.specs.Signed.{low32, overflows}
 use Rattle.state.specs.State.{vaerInRange}
 use Rattle.longword.specs.Longword.{sumOf, differenceOf, productOf}
 use Rattle.floating.specs.Format.{Format, F, isReserved}
-use Rattle.floating.specs.Exact.{valueOf, minus}
+use Rattle.floating.specs.Exact.{valueOf, integer, isLess, isEqual}
 use Rattle.floating.specs.Round.{near, chopped}
-use Rattle.floating.specs.declared.Answer.{Answer}
+use Rattle.floating.specs.declared.Flagged.{Flagged}
 use Rattle.floating.specs.declared.Compared.{Compared}
-use Rattle.floating.specs.declared.Outcome.{Outcome}
-use Rattle.floating.specs.declared.Outcome.the-variants.{Word, Overflow, Underflow, Reserved, DivisionByZero, ReservedByZero}
-use Rattle.floating.specs.Operations.{answered, sum, difference, product, quotient, side, holds, compared, lowBits, isWide, toLongword, roundedLongword, truncatedLongword, fromLongword}
-use Rattle.opcodes.specs.declared.Work.{Work}
-use Rattle.opcodes.specs.declared.Work.the-variants.{AddLongword, SubtractLongword, MultiplyLongword, CompareLongword, BitSet, ExclusiveOr, BitClear, ShiftRight, ShiftLeft, AddF, SubtractF, MultiplyF, CompareF, Convert, Iota, Merge, LoadLongword, LoadQuadword, StoreLongword, StoreQuadword, DivideF}
+use Rattle.floating.specs.declared.Delivery.{Delivery}
+use Rattle.floating.specs.declared.Delivery.the-variants.{Word, Overflow, Underflow, Reserved, DivisionByZero, ReservedByZero}
+use Rattle.floating.specs.Operations.{answered, sum, difference, product, quotient, compared, toLongword, roundedLongword, truncatedLongword, fromLongword}
+use Rattle.opcodes.specs.Works.{Work, NoWork, AddLongword, SubtractLongword, MultiplyLongword, CompareLongword, BitSet, ExclusiveOr, BitClear, ShiftRight, ShiftLeft, AddF, SubtractF, MultiplyF, CompareF, Convert, Iota, Merge, LoadLongword, LoadQuadword, StoreLongword, StoreQuadword, DivideF}
 use Rattle.element.specs.Receives.{converted, resultOf}
 
-abbrev answer : ℕ → ℕ → Answer
+abbrev answer : ℕ → ℕ → Flagged
 answer v t = record { value = v; types = t }
 
 abbrev bitWith : Bool → ℕ → Compared
@@ -30,7 +31,7 @@ overflow : (t : Bool) → vaerInRange (pick t 32 0) ≡ true
 overflow true = refl
 overflow false = refl
 
-of-outcome : (exc : Bool) (o : Outcome) → vaerInRange (answered exc o .types) ≡ true
+of-outcome : (exc : Bool) (o : Delivery) → vaerInRange (answered exc o .types) ≡ true
 of-outcome exc (Word w) = refl
 of-outcome exc Overflow = refl
 of-outcome true Underflow = refl
@@ -40,27 +41,23 @@ of-outcome exc DivisionByZero = refl
 of-outcome exc ReservedByZero = refl
 
 of-compare : (f : Format) (relation a b : ℕ) → vaerInRange (compared f relation a b .types) ≡ true
-of-compare f relation a b = go (isReserved f a) (isReserved f b) (holds (relation % 8) (side (minus (valueOf f a) (valueOf f b))))
+of-compare f relation a b = go (isReserved f a) (isReserved f b) (relationHolds relation (isLess (valueOf f a) (valueOf f b)) (isEqual (valueOf f a) (valueOf f b)))
   where
-    go : (s t x : Bool) → vaerInRange (cond s (bitWith false 4) (cond t (bitWith false 4) (bitWith x 0)) .types) ≡ true
+    go : (s t x : Bool) → vaerInRange (pick s (bitWith false 4) (pick t (bitWith false 4) (bitWith x 0)) .types) ≡ true
     go true t x = refl
     go false true x = refl
     go false false x = refl
 
 of-longword : (f : Format) (made : ℕ → ℕ → ℕ) (exc : Bool) (w : ℕ) → vaerInRange (toLongword f made exc w .types) ≡ true
-of-longword f made exc w = go (isReserved f w) exc (isWide sign size)
+of-longword f made exc w = go (isReserved f w) (exc && overflows whole)
   where
-    sign : ℕ
-    sign = valueOf f w .sign
+    whole : ℤ
+    whole = integer (valueOf f w .sign) (made (valueOf f w .num) (valueOf f w .den))
 
-    size : ℕ
-    size = made (valueOf f w .num) (valueOf f w .den)
-
-    go : (r e t : Bool) → vaerInRange (cond r (answer 0 4) (answer (lowBits sign size) (cond e (cond t 32 0) 0)) .types) ≡ true
-    go true e t = refl
-    go false true true = refl
-    go false true false = refl
-    go false false t = refl
+    go : (r t : Bool) → vaerInRange (pick r (answer 0 4) (answer (low32 whole) (pick t 32 0)) .types) ≡ true
+    go true t = refl
+    go false true = refl
+    go false false = refl
 
 of-conversion : (conversion : ℕ) (exc : Bool) (b : ℕ) → vaerInRange (converted conversion exc b .types) ≡ true
 of-conversion conversion exc b = go (eqb conversion 5) (eqb conversion 4)
@@ -73,6 +70,7 @@ of-conversion conversion exc b = go (eqb conversion 5) (eqb conversion 4)
 -- WHAT AN ELEMENT RECORDS, whatever it reads
 pub types-in-range : (w : Work) (exc : Bool) (field : ℕ) (m : Bool) (a b c : ℕ) → vaerInRange (resultOf w exc field m a b c .types) ≡ true
 unfolding resultOf
+types-in-range NoWork exc field m a b c = refl
 types-in-range AddLongword exc field m a b c = overflow (exc && overflows (sumOf a b))
 types-in-range SubtractLongword exc field m a b c = overflow (exc && overflows (differenceOf a b))
 types-in-range MultiplyLongword exc field m a b c = overflow (exc && overflows (productOf a b))

@@ -1,3 +1,3 @@
 -- What one element receives.
 pub mod Receives
-pub mod Groups
+pub mod Working

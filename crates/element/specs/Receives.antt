@@ -1,4 +1,5 @@
--- Document 01, "What an element receives", and document 02, Q-1 and Q-2: the work of one element, over what it reads there. a is Va's element or the scalar, b is Vb's, c is Vc's own.
+-- Document 01, "What an element receives", and document 02, Q-1 and Q-2: the work of one element, over what it reads there. a is Va's element or the
+-- scalar, b is Vb's, c is Vc's own.
 use mathlib.Core.Bool.{Bool, _&&_}
 use Prim.Native.Nat.{ℕ}
 use lib.Dec.{eqb}
@@ -9,10 +10,11 @@ use Rattle.numbers.specs.Signed.{low32, overflows}
 use Rattle.longword.specs.Longword.{sumOf, differenceOf, productOf, compares, bitSetOf, exclusiveOrOf, bitClearOf, shiftedRight, shiftedLeft}
 use Rattle.floating.specs.Format.{F}
 use Rattle.floating.specs.Operations.{answered, sum, difference, product, quotient, compared, roundedLongword, truncatedLongword, fromLongword}
-use Rattle.floating.specs.declared.Answer.{Answer}
+use Rattle.floating.specs.declared.Flagged.{Flagged}
 use Rattle.floating.specs.declared.Compared.{Compared}
-use Rattle.opcodes.specs.declared.Work.{Work}
-use Rattle.opcodes.specs.declared.Work.the-variants.{AddLongword, SubtractLongword, MultiplyLongword, CompareLongword, BitSet, ExclusiveOr, BitClear, ShiftRight, ShiftLeft, AddF, SubtractF, MultiplyF, CompareF, Convert, Iota, Merge, LoadLongword, LoadQuadword, StoreLongword, StoreQuadword, DivideF}
+use Rattle.opcodes.specs.Works.{Work, NoWork, AddLongword, SubtractLongword, MultiplyLongword, CompareLongword, BitSet, ExclusiveOr, BitClear}
+use Rattle.opcodes.specs.Works.{ShiftRight, ShiftLeft, AddF, SubtractF, MultiplyF, CompareF, Convert, Iota, Merge, LoadLongword, LoadQuadword}
+use Rattle.opcodes.specs.Works.{StoreLongword, StoreQuadword, DivideF}
 use Rattle.element.specs.declared.Out.{Out}
 
 abbrev pub out : ℕ → ℕ → Out
@@ -27,7 +29,7 @@ abbrev pub longwordOut : Bool → ℕ → ℤ → Out
 longwordOut exc c z = out (withLow c (low32 z)) (pick (exc && overflows z) 32 0)
 
 -- F_floating, of <31:0>
-abbrev pub floatingOut : ℕ → Answer → Out
+abbrev pub floatingOut : ℕ → Flagged → Out
 floatingOut c x = out (withLow c (x .value)) (x .types)
 
 -- a mask bit
@@ -38,7 +40,7 @@ abbrev pub comparedOut : Compared → Out
 comparedOut x = bitOut (x .bit) (x .types)
 
 -- conversions: 5 rounded F to L, 4 truncated F to L, 1 L to F; others are refused before
-abbrev pub converted : ℕ → Bool → ℕ → Answer
+abbrev pub converted : ℕ → Bool → ℕ → Flagged
 converted conversion exc b =
     pick (eqb conversion 5) (roundedLongword F exc (low b))
     (pick (eqb conversion 4) (truncatedLongword F exc (low b))
@@ -47,6 +49,7 @@ converted conversion exc b =
 -- what the work leaves and records, where the field is the relation of a compare or the conversion of convert, and matches says that VMR<i> is MTF.
 -- IOTA and memory are no work of one element alone.
 unfoldable pub resultOf : Work → Bool → ℕ → Bool → ℕ → ℕ → ℕ → Out
+resultOf NoWork exc field matches a b c = quiet c
 resultOf AddLongword exc field matches a b c = longwordOut exc c (sumOf a b)
 resultOf SubtractLongword exc field matches a b c = longwordOut exc c (differenceOf a b)
 resultOf MultiplyLongword exc field matches a b c = longwordOut exc c (productOf a b)

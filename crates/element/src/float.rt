@@ -15,7 +15,7 @@ pub fn word(x: u64) -> u32
 }
 
 // A 32-bit result in the low half, with what it recorded.
-pub fn place(c: u64, x: floating::Answer) -> Out
+pub fn place(c: u64, x: floating::Flagged) -> Out
     ensures { λ r. ⌜ r ≡ floatingOut c x ⌝ }
 {
     Out {
@@ -45,7 +45,7 @@ pub fn compare(relation: u64, a: u64, b: u64) -> Out
 }
 
 // The conversion of a source's bits <31:0>.
-fn conversion_of(conversion: u64, exc: bool, b: u64) -> floating::Answer
+fn conversion_of(conversion: u64, exc: bool, b: u64) -> floating::Flagged
     ensures { λ r. ⌜ r ≡ converted conversion exc b ⌝ }
 {
     if conversion == 5 {

@@ -1,2 +1,2 @@
 -- Laws of one instruction.
-pub mod Moving
+pub mod Executing

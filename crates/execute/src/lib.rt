@@ -2,36 +2,22 @@
 use machine::instruction;
 use machine::run;
 use memory;
-use opcodes::ControlWord;
+use opcodes;
+use opcodes::Decoded;
 use opcodes::Instruction;
-use opcodes::Opcode;
-use opcodes::control_word;
-use opcodes::table;
+use opcodes::works;
 use state::Control;
+use state::answer;
+use state::answer::Answer;
+use state::answer::Ended;
 ghost use mathlib.Core.Path.{_≡_};
-ghost use Prim.Native.Nat.{_<_, _≤_};
+ghost use mathlib.Core.Bool.{true};
+ghost use Prim.Native.Nat.{_≤_};
+ghost use Rattle.state.specs.Outcome.{outcome};
 ghost use Rattle.state.specs.State.{state as stateOf};
-ghost use Rattle.memory.specs.Address.{accessAnswer};
-ghost use Rattle.machine.specs.Instruction.{instructionOf};
-ghost use Rattle.execute.specs.Execute.{executionAnswer, outcome, accepted, executedOf};
-
-// What the call gives back.
-pub enum Execution {
-    Done,
-    ReservedOpcode,
-    ReservedControlWord,
-    Disabled,
-    WindowRefused,
-    Misaligned(u64),
-    OutsideWindow(u64),
-    StateOutOfRange,
-}
-
-// The answer, and the control record after the instruction.
-pub struct Executed {
-    pub answer: Execution,
-    pub control: Control,
-}
+ghost use Rattle.opcodes.specs.Working.{Below, inTable, isRegisterWork};
+ghost use Rattle.machine.specs.Instruction.{instructionDone};
+ghost use Rattle.execute.specs.Execute.{carriedOut, executedOf};
 
 // A register instruction by itself.
 fn register(
@@ -40,26 +26,14 @@ fn register(
     instruction: Instruction,
     scalar: u64,
 ) -> Control
-    requires { ⌜ (instruction .va .0 < 16) × (instruction .vb .0 < 16) × (instruction .vc .0 < 16) × (control .vlr ≤ 64) ⌝ }
-    ensures { λ r. ⌜ stateOf (now (elements .exit)) r ≡ instructionOf instruction scalar (stateOf (now (elements .entry)) control) ⌝ }
+    requires { ⌜ Below instruction × (isRegisterWork (instruction .work) ≡ true) × (control .vlr ≤ 64) ⌝ }
+    ensures { λ r. ⌜ stateOf (now (elements .exit)) r ≡ instructionDone instruction scalar (stateOf (now (elements .entry)) control) ⌝ }
 {
     run::end(instruction::whole(elements, run::begin(control), instruction, scalar))
 }
 
-// The answer of a memory instruction, as an answer of the call.
-fn access_answer(access: memory::Access) -> Execution
-    ensures { λ r. ⌜ executionAnswer r ≡ accessAnswer access ⌝ }
-{
-    match access {
-        memory::Access::Done => Execution::Done,
-        memory::Access::WindowRefused => Execution::WindowRefused,
-        memory::Access::Misaligned(element) => Execution::Misaligned(element),
-        memory::Access::OutsideWindow(element) => Execution::OutsideWindow(element),
-    }
-}
-
-// An accepted instruction.
-fn run_accepted(
+// An instruction that passed the checks.
+fn carry_out(
     elements: &mut [u64; 1024],
     control: Control,
     instruction: Instruction,
@@ -68,25 +42,20 @@ fn run_accepted(
     stride: u32,
     window: &mut [u8],
     origin: u64,
-) -> Executed
-    requires { ⌜ (instruction .va .0 < 16) × (instruction .vb .0 < 16) × (instruction .vc .0 < 16) × (control .vlr ≤ 64) ⌝ }
-    ensures { λ r. ⌜ outcome (executionAnswer (r .answer)) (stateOf (now (elements .exit)) (r .control)) (now (window .exit)) ≡ accepted instruction (stateOf (now (elements .entry)) control) scalar base stride (now (window .entry)) origin ⌝ }
+) -> Ended
+    requires { ⌜ Below instruction × (inTable (instruction .work) ≡ true) × (control .vlr ≤ 64) ⌝ }
+    ensures { λ r. ⌜ outcome (r .answer) (stateOf (now (elements .exit)) (r .control), now (window .exit)) ≡ carriedOut instruction (stateOf (now (elements .entry)) control) scalar base stride (now (window .entry)) origin ⌝ }
 {
-    let work = instruction.work;
-    if table::is_memory(work) {
-        let access = memory::transfer(elements, control, instruction, base, stride, window, origin);
-        return Executed {
-            answer: access_answer(access),
-            control,
-        };
+    if works::is_memory(instruction.work) {
+        return memory::transfer(elements, control, instruction, base, stride, window, origin);
     }
-    Executed {
-        answer: Execution::Done,
+    Ended {
+        answer: Answer::Done(0),
         control: register(elements, control, instruction, scalar),
     }
 }
 
-// One instruction. The opcode's answer is taken apart first: a refused opcode ends the check there.
+// One instruction.
 pub fn execute(
     elements: &mut [u64; 1024],
     control: Control,
@@ -97,41 +66,24 @@ pub fn execute(
     stride: u32,
     window: &mut [u8],
     origin: u64,
-) -> Executed
-    ensures { λ r. ⌜ outcome (executionAnswer (r .answer)) (stateOf (now (elements .exit)) (r .control)) (now (window .exit)) ≡ executedOf (stateOf (now (elements .entry)) control) opcode cntrl scalar base stride (now (window .entry)) origin ⌝ }
+) -> Ended
+    ensures { λ r. ⌜ outcome (r .answer) (stateOf (now (elements .exit)) (r .control), now (window .exit)) ≡ executedOf (stateOf (now (elements .entry)) control) opcode cntrl scalar base stride (now (window .entry)) origin ⌝ }
 {
     if !state::in_range(control) {
-        return Executed {
-            answer: Execution::StateOutOfRange,
-            control,
-        };
+        return answer::refused(Answer::OutOfRange, control);
     }
-    let Opcode::Accepted(work, form) = table::look_up(opcode) else {
-        return Executed {
-            answer: Execution::ReservedOpcode,
+    let decoded = opcodes::decode(state::enabled(control), false, 0, opcode, cntrl);
+    match decoded {
+        Decoded::Refused(refusal) => answer::refused(refusal, control),
+        Decoded::Accepted(instruction) => carry_out(
+            elements,
             control,
-        };
-    };
-    if !state::enabled(control) {
-        return Executed {
-            answer: Execution::Disabled,
-            control,
-        };
+            instruction,
+            scalar,
+            base,
+            stride,
+            window,
+            origin,
+        ),
     }
-    let ControlWord::Accepted(instruction) = control_word::read_control(work, form, cntrl) else {
-        return Executed {
-            answer: Execution::ReservedControlWord,
-            control,
-        };
-    };
-    run_accepted(
-        elements,
-        control,
-        instruction,
-        scalar,
-        base,
-        stride,
-        window,
-        origin,
-    )
 }

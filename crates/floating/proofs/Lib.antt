@@ -10,7 +10,6 @@ pub mod Packing
 pub mod Magnitude
 pub mod Sums
 pub mod Meaning
-pub mod Underflow
 pub mod Converting
 pub mod Ordering
 pub mod Double

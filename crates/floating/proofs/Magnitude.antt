@@ -2,14 +2,15 @@
 use mathlib.Core.Path.{_≡_, refl, sym, ap, _∙_, subst}
 use mathlib.Core.Logic.{_⊎_, inl, inr}
 use Prim.Native.Nat.{ℕ, suc, _+_, _-_, _*_, _/_, _%_, _^_, _≤_, _<_}
-use native.Mathlib.Nat.{le-of-eq, le-of-lt, lt-of-le-of-lt, lt-of-lt-of-le, eq-or-lt-of-le, eq-zero-or-pos, mod-lt, div-add-mod', mul-comm, mul-assoc, mul-one, mul-pos, suc-mul, mul-le-mul, mul-le-mul-right, mul-lt-mul-of-pos-right}
+use native.Mathlib.Nat.{le-of-eq, le-of-lt, lt-of-le-of-lt, lt-of-lt-of-le, eq-or-lt-of-le, eq-zero-or-pos, mod-lt, div-add-mod', mul-comm, mul-assoc, mul-one}
+use native.Mathlib.Nat.{mul-pos, suc-mul, mul-le-mul, mul-le-mul-right, mul-lt-mul-of-pos-right}
 use native.Mathlib.Omega.{arith}
 use lib.Arith.{digits-div, digits-mod}
 use lib.Pow.{pow-add, pow-pos, pow-mono}
 use borrow.Author.Tests.{eq-eqb, ne-eqb}
 use Rattle.floating.specs.Format.{Format, exponentOf, significandOf}
 use Rattle.floating.specs.Exact.{sizeOf}
-use Rattle.floating.specs.Steps.{magnitude, sizeAt, rank}
+use Rattle.floating.specs.Working.{magnitude, sizeAt, rank}
 use Rattle.floating.proofs.Products.{size-none, size-some}
 use Rattle.floating.proofs.Packing.{Sound, fraction-lt}
 
@@ -54,35 +55,34 @@ module _ (q ea xa eb xb : ℕ) (Q : 0 < q) (ha : xa < q) (hb : xb < q) where
 
 -- ---- sizes by their magnitudes
 module _ (f : Format) (k l : ℕ) where
-  pub larger-at : l < k → (l / 2 ^ (f .bits - 1) ≤ k / 2 ^ (f .bits - 1)) × (2 ^ (f .bits - 1) + l % 2 ^ (f .bits - 1) < (2 ^ (f .bits - 1) + k % 2 ^ (f .bits - 1)) * 2 ^ (k / 2 ^ (f .bits - 1) - l / 2 ^ (f .bits - 1)))
+  abbrev q : ℕ
+  q = 2 ^ (f .bits - 1)
+
+  pub larger-at : l < k → (l / q ≤ k / q) × (q + l % q < (q + k % q) * 2 ^ (k / q - l / q))
   larger-at h =
-      let q = 2 ^ (f .bits - 1) in
       let Q : 0 < q = pow-pos (f .bits - 1) in
-      digits-larger q (k / q) (k % q) (l / q) (l % q) Q (mod-lt k Q) (mod-lt l Q) (lt-of-le-of-lt (le-of-eq (div-add-mod' l q)) (lt-of-lt-of-le h (le-of-eq (sym (div-add-mod' k q)))))
+      digits-larger q (k / q) (k % q) (l / q) (l % q) Q (mod-lt k Q) (mod-lt l Q)
+      (lt-of-le-of-lt (le-of-eq (div-add-mod' l q)) (lt-of-lt-of-le h (le-of-eq (sym (div-add-mod' k q)))))
 
   pub size-less : l < k → sizeAt f l < sizeAt f k
   size-less h =
-      let q = 2 ^ (f .bits - 1) in
       let o = larger-at h in
       let r : l / q ≤ k / q = o .0 in
       let e : l / q + (k / q - l / q) ≡ k / q = omega arith in
       less-apart (q + k % q) (q + l % q) (k / q) (l / q) (k / q - l / q) e (o .1)
 
--- no larger, either way
-pub at-most : (f : Format) (k l : ℕ) → l ≤ k → (sizeAt f l ≤ sizeAt f k) × (2 ^ (f .bits - 1) + l % 2 ^ (f .bits - 1) ≤ (2 ^ (f .bits - 1) + k % 2 ^ (f .bits - 1)) * 2 ^ (k / 2 ^ (f .bits - 1) - l / 2 ^ (f .bits - 1)))
-at-most f k l h = go (eq-or-lt-of-le h)
-  where
-    q : ℕ
-    q = 2 ^ (f .bits - 1)
+  -- no larger, either way
+  pub at-most : l ≤ k → (sizeAt f l ≤ sizeAt f k) × (q + l % q ≤ (q + k % q) * 2 ^ (k / q - l / q))
+  at-most h = go (eq-or-lt-of-le h)
+    where
+      none : (x y : ℕ) → y ≡ x → x - y ≡ 0
+      none x y e = omega arith
 
-    go : (l ≡ k) ⊎ (l < k) → (sizeAt f l ≤ sizeAt f k) × (q + l % q ≤ (q + k % q) * 2 ^ (k / q - l / q))
-    go (inl e) =
-        let z : k / q - l / q ≡ 0 = none (k / q) (l / q) (ap (λ (y : ℕ). y / q) e) in
-        (le-of-eq (ap (sizeAt f) e), le-of-eq (ap (λ (y : ℕ). q + y % q) e ∙ sym (ap (λ (y : ℕ). (q + k % q) * 2 ^ y) z ∙ mul-one (q + k % q))))
-      where
-        none : (x y : ℕ) → y ≡ x → x - y ≡ 0
-        none x y e = omega arith
-    go (inr g) = (le-of-lt (size-less f k l g), le-of-lt (larger-at f k l g .1))
+      go : (l ≡ k) ⊎ (l < k) → (sizeAt f l ≤ sizeAt f k) × (q + l % q ≤ (q + k % q) * 2 ^ (k / q - l / q))
+      go (inl e) =
+          let z : k / q - l / q ≡ 0 = none (k / q) (l / q) (ap (λ (y : ℕ). y / q) e) in
+          (le-of-eq (ap (sizeAt f) e), le-of-eq (ap (λ (y : ℕ). q + y % q) e ∙ sym (ap (λ (y : ℕ). (q + k % q) * 2 ^ y) z ∙ mul-one (q + k % q))))
+      go (inr g) = (le-of-lt (size-less g), le-of-lt (larger-at g .1))
 
 module _ (f : Format) (S : Sound f) where
   -- the magnitude of a word gives its size
@@ -97,7 +97,8 @@ module _ (f : Format) (S : Sound f) where
   module _ (a b : ℕ) where
     larger-size : 0 < exponentOf f a → 0 < exponentOf f b → magnitude f b < magnitude f a → sizeOf f b < sizeOf f a
     larger-size na nb h =
-        subst (λ (z : ℕ). z < sizeOf f a) (sized b (magnitude f b) refl (λ z. omega arith)) (subst (λ (z : ℕ). sizeAt f (magnitude f b) < z) (sized a (magnitude f a) refl (λ z. omega arith)) (size-less f (magnitude f a) (magnitude f b) h))
+        subst (λ (z : ℕ). z < sizeOf f a) (sized b (magnitude f b) refl (λ z. omega arith))
+        (subst (λ (z : ℕ). sizeAt f (magnitude f b) < z) (sized a (magnitude f a) refl (λ z. omega arith)) (size-less f (magnitude f a) (magnitude f b) h))
 
   -- ---- the rank, which knows zero
   pub size-pos : (w : ℕ) → 0 < exponentOf f w → 0 < sizeOf f w
@@ -137,4 +138,7 @@ module _ (f : Format) (S : Sound f) where
         go (inl p) (inl q) = size-none f a p ∙ sym (size-none f b q)
         go (inl p) (inr q) = absurd (some b q (sym h ∙ zero-rank a p))
         go (inr p) (inl q) = absurd (some a p (h ∙ zero-rank b q))
-        go (inr p) (inr q) = sym (sized a (magnitude f a) refl (λ z. omega arith)) ∙ ap (sizeAt f) (sym (full-rank a p) ∙ h ∙ full-rank b q) ∙ sized b (magnitude f b) refl (λ z. omega arith)
+        go (inr p) (inr q) =
+            sym (sized a (magnitude f a) refl (λ z. omega arith))
+            ∙ ap (sizeAt f) (sym (full-rank a p) ∙ h ∙ full-rank b q)
+            ∙ sized b (magnitude f b) refl (λ z. omega arith)

@@ -1,18 +1,22 @@
 -- How two words lie to each other, by their signs and ranks. Assumes nothing.
-use mathlib.Core.Path.{_≡_, refl, sym, ap, _∙_, subst}
+use mathlib.Core.Path.{_≡_, refl, sym, ap, ap₂, _∙_}
 use mathlib.Core.Logic.{_⊎_, inl, inr}
-use mathlib.Core.Bool.{Bool, true, false, not, cond, _||_, Bool·beq}
+use mathlib.Core.Bool.{Bool, true, false, not, _&&_, _||_, Bool·beq}
 use Prim.Native.Nat.{ℕ, zero, suc, _+_, _-_, _*_, _/_, _%_, _^_, _≤_, _<_}
-use native.Mathlib.Nat.{le-of-eq, le-of-lt, eq-zero-or-pos, mod-lt, mul-pos, mul-lt-mul-of-pos-right}
+use native.Mathlib.Nat.{le-of-eq, le-of-lt, eq-zero-or-pos, zero-mul, one-mul, mul-pos, mul-le-mul-right, mul-lt-mul-of-pos-right}
 use native.Mathlib.Omega.{arith}
-use lib.Dec.{T, eqb, ltb, ltb→lt, nltb→le, lit<}
+use lib.Dec.{eqb, ltb, leb}
+use lib.Arith.{digits-lt}
 use lib.Pow.{pow-pos}
-use borrow.Author.Tests.{eq-eqb, ne-eqb, eqb-false, lt-ltb, le-ltb}
-use Rattle.floating.specs.Format.{Format, F, signOf, exponentOf, fractionOf, isReserved}
+use borrow.Author.Tests.{eq-eqb, ne-eqb, eqb-false, lt-ltb, le-ltb, lt-leb, le-leb}
+use Rattle.numbers.specs.Choice.{pick}
+use Rattle.numbers.specs.Relation.{relationHolds}
+use Rattle.numbers.proofs.Relations.{by-parts}
+use Rattle.floating.specs.Format.{Format, F, signOf, exponentOf, isReserved}
 use Rattle.floating.specs.Exact.{Exact, sizeOf, valueOf, minus}
-use Rattle.floating.specs.Operations.{side, holds, compared}
-use Rattle.floating.specs.Steps.{turned, magnitude, rank, level}
-use Rattle.floating.proofs.Packing.{Sound, F-sound, sign-lt, exponent-lt, fraction-lt, turned-split}
+use Rattle.floating.specs.Operations.{compared}
+use Rattle.floating.specs.Working.{swapped, magnitude, magnitudes, ordinal, rank, level, side}
+use Rattle.floating.proofs.Packing.{Sound, sign-lt, exponent-lt, fraction-lt, swapped-split}
 use Rattle.floating.proofs.Magnitude.{size-pos, zero-rank, full-rank, rank-less, rank-same}
 use Rattle.floating.proofs.Sums.{Test, same, less, more, order, signs, together-same, together-more, together-less}
 
@@ -23,7 +27,7 @@ side-zero x h = simp (eq-eqb (x .num) 0 h)
 side-some : (x : Exact) → (x .num ≡ 0 → ⊥) → x .sign < 2 → side x ≡ x .sign * 2
 side-some x n l = simp (ne-eqb (x .num) 0 n) (go (x .sign) l)
   where
-    go : (s : ℕ) → s < 2 → cond (eqb s 0) 0 2 ≡ s * 2
+    go : (s : ℕ) → s < 2 → pick (eqb s 1) 2 0 ≡ s * 2
     go zero l = refl
     go (suc zero) l = refl
     go (suc (suc k)) l = absurd (omega arith)
@@ -40,132 +44,136 @@ module _ (f : Format) (S : Sound f) where
           absurd (omega arith)
       go (inr p) = size-pos f S w p
 
-  module _ (a b s : ℕ) (ra : isReserved f a ≡ false) (rb : isReserved f b ≡ false) (hs : s ≡ signOf f a) where
-    sides-apart : (t : ℕ) → t ≡ signOf f b → (s ≡ t → ⊥) → s * 2 ≡ side (minus (valueOf f a) (valueOf f b))
-    sides-apart t ht n =
-        let x = sizeOf f a in
-        let y = sizeOf f b in
-        let e : signOf f a ≡ 1 - signOf f b = omega arith in
-        let tog = together-same (signOf f a) (x * 2 ^ (f .bits + f .excess)) (1 - signOf f b) (y * 2 ^ (f .bits + f .excess)) (2 ^ (f .bits + f .excess) * 2 ^ (f .bits + f .excess)) e in
-        ap (λ (z : ℕ). z * 2) hs ∙ sym (ap side tog ∙ side-some (record { sign = signOf f a; num = x * 2 ^ (f .bits + f .excess) + y * 2 ^ (f .bits + f .excess); den = 2 ^ (f .bits + f .excess) * 2 ^ (f .bits + f .excess) }) (some (2 ^ (f .bits + f .excess)) (pow-pos (f .bits + f .excess))) (omega arith))
+  -- the unit of an exact difference, and such a difference
+  abbrev unit : ℕ
+  unit = 2 ^ (f .bits + f .excess)
+
+  abbrev exact : ℕ → ℕ → Exact
+  exact s n = record { sign = s; num = n; den = unit * unit }
+
+  module _ (a b : ℕ) (ra : isReserved f a ≡ false) (rb : isReserved f b ≡ false) where
+    abbrev sa : ℕ
+    sa = signOf f a
+
+    abbrev sb : ℕ
+    sb = signOf f b
+
+    abbrev x : ℕ
+    x = sizeOf f a * unit
+
+    abbrev y : ℕ
+    y = sizeOf f b * unit
+
+    abbrev lies : ℕ
+    lies = side (minus (valueOf f a) (valueOf f b))
+
+    sides-apart : (sa ≡ sb → ⊥) → sa * 2 ≡ lies
+    sides-apart n =
+        let e : sa ≡ 1 - sb = omega (arith, n) in
+        sym (ap side (together-same sa x (1 - sb) y (unit * unit) e) ∙ side-some (exact sa (x + y)) (some (one-of (eq-zero-or-pos sa))) (sign-lt f a))
       where
-        one-of : (0 < sizeOf f a) ⊎ (0 < sizeOf f b)
-        one-of = go (eq-zero-or-pos (signOf f a))
-          where
-            go : (signOf f a ≡ 0) ⊎ (0 < signOf f a) → (0 < sizeOf f a) ⊎ (0 < sizeOf f b)
-            go (inl z) = inr (signed-size b rb (omega arith))
-            go (inr p) = inl (signed-size a ra (omega arith))
+        one-of : (sa ≡ 0) ⊎ (0 < sa) → (0 < x) ⊎ (0 < y)
+        one-of (inl z) = inr (mul-pos (signed-size b rb (omega (arith, n))) (pow-pos (f .bits + f .excess)))
+        one-of (inr p) = inl (mul-pos (signed-size a ra (omega arith)) (pow-pos (f .bits + f .excess)))
 
-        some : (d : ℕ) → 0 < d → sizeOf f a * d + sizeOf f b * d ≡ 0 → ⊥
-        some d P z = go one-of
-          where
-            go : (0 < sizeOf f a) ⊎ (0 < sizeOf f b) → ⊥
-            go (inl p) = never (sizeOf f a * d) (sizeOf f b * d) (mul-pos p P) z
-              where
-                never : (u v : ℕ) → 0 < u → u + v ≡ 0 → ⊥
-                never u v l e = omega arith
-            go (inr p) = never (sizeOf f a * d) (sizeOf f b * d) (mul-pos p P) z
-              where
-                never : (u v : ℕ) → 0 < v → u + v ≡ 0 → ⊥
-                never u v l e = omega arith
+        some : (0 < x) ⊎ (0 < y) → x + y ≡ 0 → ⊥
+        some (inl p) z = omega arith
+        some (inr p) z = omega arith
 
-    module _ (t : ℕ) (ht : t ≡ signOf f b) (same : s ≡ t) where
-      differ : signOf f a ≡ 1 - signOf f b → ⊥
+    module _ (same : sa ≡ sb) where
+      differ : sa ≡ 1 - sb → ⊥
       differ e = omega arith
 
-      sides-equal : (p q : ℕ) → p ≡ rank f a → q ≡ rank f b → p ≡ q → 1 ≡ side (minus (valueOf f a) (valueOf f b))
-      sides-equal p q hp hq e =
-          let z : sizeOf f a ≡ sizeOf f b = rank-same f S a b (sym hp ∙ e ∙ hq) in
-          sym (ap side (together-less (signOf f a) (sizeOf f a * 2 ^ (f .bits + f .excess)) (1 - signOf f b) (sizeOf f b * 2 ^ (f .bits + f .excess)) (2 ^ (f .bits + f .excess) * 2 ^ (f .bits + f .excess)) differ (le-of-eq (ap (λ (k : ℕ). k * 2 ^ (f .bits + f .excess)) z))) ∙ side-zero (record { sign = 1 - signOf f b; num = sizeOf f b * 2 ^ (f .bits + f .excess) - sizeOf f a * 2 ^ (f .bits + f .excess); den = 2 ^ (f .bits + f .excess) * 2 ^ (f .bits + f .excess) }) (none (sizeOf f a) (sizeOf f b) (2 ^ (f .bits + f .excess)) z))
+      scaled : (m n : ℕ) → m < n → m * unit < n * unit
+      scaled m n l = mul-lt-mul-of-pos-right l (pow-pos (f .bits + f .excess))
+
+      left-over : (m n : ℕ) → n < m → m - n ≡ 0 → ⊥
+      left-over m n l z = omega arith
+
+      sides-equal : rank f a ≡ rank f b → 1 ≡ lies
+      sides-equal e =
+          let z : x ≡ y = ap (λ (k : ℕ). k * unit) (rank-same f S a b e) in
+          sym (ap side (together-less sa x (1 - sb) y (unit * unit) differ (le-of-eq z)) ∙ side-zero (exact (1 - sb) (y - x)) (gone x y z))
         where
-          gone : (x y : ℕ) → x ≡ y → y - x ≡ 0
-          gone x y e = omega arith
+          gone : (m n : ℕ) → m ≡ n → n - m ≡ 0
+          gone m n e = omega arith
 
-          none : (x y d : ℕ) → x ≡ y → y * d - x * d ≡ 0
-          none x y d e = gone (x * d) (y * d) (ap (λ (k : ℕ). k * d) e)
+      sides-more : rank f b < rank f a → sa * 2 ≡ lies
+      sides-more l =
+          let z : y < x = scaled (sizeOf f b) (sizeOf f a) (rank-less f S a b l) in
+          sym (ap side (together-more sa x (1 - sb) y (unit * unit) differ z) ∙ side-some (exact sa (x - y)) (left-over x y z) (sign-lt f a))
 
-      left-over : (x y : ℕ) → y < x → x - y ≡ 0 → ⊥
-      left-over x y l z = omega arith
+      sides-less : rank f a < rank f b → 2 - sa * 2 ≡ lies
+      sides-less l =
+          let z : x < y = scaled (sizeOf f a) (sizeOf f b) (rank-less f S b a l) in
+          let w : 2 - sa * 2 ≡ (1 - sb) * 2 = omega arith in
+          let d = together-less sa x (1 - sb) y (unit * unit) differ (le-of-lt z) in
+          w ∙ sym (ap side d ∙ side-some (exact (1 - sb) (y - x)) (left-over y x z) (omega arith))
 
-      sides-more : (p q : ℕ) → p ≡ rank f a → q ≡ rank f b → q < p → s * 2 ≡ side (minus (valueOf f a) (valueOf f b))
-      sides-more p q hp hq l =
-          let z : sizeOf f b < sizeOf f a = rank-less f S a b (subst (λ (k : ℕ). k < rank f a) hq (subst (λ (k : ℕ). q < k) hp l)) in
-          let y : sizeOf f b * 2 ^ (f .bits + f .excess) < sizeOf f a * 2 ^ (f .bits + f .excess) = mul-lt-mul-of-pos-right z (pow-pos (f .bits + f .excess)) in
-          ap (λ (k : ℕ). k * 2) hs
-          ∙ sym (ap side (together-more (signOf f a) (sizeOf f a * 2 ^ (f .bits + f .excess)) (1 - signOf f b) (sizeOf f b * 2 ^ (f .bits + f .excess)) (2 ^ (f .bits + f .excess) * 2 ^ (f .bits + f .excess)) differ y) ∙ side-some (record { sign = signOf f a; num = sizeOf f a * 2 ^ (f .bits + f .excess) - sizeOf f b * 2 ^ (f .bits + f .excess); den = 2 ^ (f .bits + f .excess) * 2 ^ (f .bits + f .excess) }) (left-over (sizeOf f a * 2 ^ (f .bits + f .excess)) (sizeOf f b * 2 ^ (f .bits + f .excess)) y) (omega arith))
+  -- ---- by the levels
+  rank-lt : (w : ℕ) → rank f w < magnitudes f
+  rank-lt w = go (eqb (exponentOf f w) 0)
+    where
+      fields : exponentOf f w < f .largest + 1
+      fields = let e = exponent-lt f S w in let r = S .range in omega arith
 
-      sides-less : (p q : ℕ) → p ≡ rank f a → q ≡ rank f b → (p ≡ q → ⊥) → p ≤ q → 2 - s * 2 ≡ side (minus (valueOf f a) (valueOf f b))
-      sides-less p q hp hq n l =
-          let l' : p < q = omega arith in
-          let z : sizeOf f a < sizeOf f b = rank-less f S b a (subst (λ (k : ℕ). k < rank f b) hp (subst (λ (k : ℕ). p < k) hq l')) in
-          let y : sizeOf f a * 2 ^ (f .bits + f .excess) < sizeOf f b * 2 ^ (f .bits + f .excess) = mul-lt-mul-of-pos-right z (pow-pos (f .bits + f .excess)) in
-          let w : 2 - s * 2 ≡ (1 - signOf f b) * 2 = omega arith in
-          w
-          ∙ sym (ap side (together-less (signOf f a) (sizeOf f a * 2 ^ (f .bits + f .excess)) (1 - signOf f b) (sizeOf f b * 2 ^ (f .bits + f .excess)) (2 ^ (f .bits + f .excess) * 2 ^ (f .bits + f .excess)) differ (le-of-lt y)) ∙ side-some (record { sign = 1 - signOf f b; num = sizeOf f b * 2 ^ (f .bits + f .excess) - sizeOf f a * 2 ^ (f .bits + f .excess); den = 2 ^ (f .bits + f .excess) * 2 ^ (f .bits + f .excess) }) (left-over (sizeOf f b * 2 ^ (f .bits + f .excess)) (sizeOf f a * 2 ^ (f .bits + f .excess)) y) (omega arith))
+      go : (t : Bool) → pick t 0 (magnitude f w) < magnitudes f
+      go true = mul-pos {m = f .largest + 1} {n = 2 ^ (f .bits - 1)} (omega arith) (pow-pos (f .bits - 1))
+      go false = digits-lt fields (fraction-lt f S w)
 
--- ---- by the levels
--- the level of a number that is not reserved
-level-is : (w : ℕ) → w < 4294967296 → isReserved F w ≡ false → level w ≡ signOf F w * 2147483648 + rank F w
-level-is w l n = go (eq-zero-or-pos (exponentOf F w))
-  where
-    sign-none : exponentOf F w ≡ 0 → signOf F w ≡ 0
-    sign-none z =
-        let s : eqb (signOf F w) 1 ≡ false = ap (λ (t : Bool). cond t (eqb (signOf F w) 1) false) (sym (eq-eqb (exponentOf F w) 0 z)) ∙ n in
-        let d : (signOf F w ≡ 1 → ⊥) = eqb-false (signOf F w) 1 s in
-        omega (arith, d)
+  -- the level of a number that is not reserved
+  level-is : (w : ℕ) → isReserved f w ≡ false → level f w ≡ signOf f w * magnitudes f + rank f w
+  level-is w n = go (eq-zero-or-pos (exponentOf f w))
+    where
+      q : ℕ
+      q = 2 ^ (f .bits - 1)
 
-    go : (exponentOf F w ≡ 0) ⊎ (0 < exponentOf F w) → level w ≡ signOf F w * 2147483648 + rank F w
-    go (inl z) =
-        let s = sign-none z in
-        let r = zero-rank F F-sound w z in
-        let x = fraction-lt F F-sound w in
-        let t = turned-split w l in
-        let small : turned w < 8388608 = below (turned w) (signOf F w) (exponentOf F w) (fractionOf F w) t s z x in
-        ap (λ (b : Bool). cond b 0 (turned w)) (lt-ltb (turned w) 8388608 small) ∙ nothing (signOf F w) (rank F w) s r
-      where
-        below : (t s e x : ℕ) → t ≡ s * 2147483648 + (e * 8388608 + x) → s ≡ 0 → e ≡ 0 → x < 8388608 → t < 8388608
-        below t s e x h g k l = omega arith
+      sign-none : exponentOf f w ≡ 0 → signOf f w ≡ 0
+      sign-none z =
+          let s : eqb (signOf f w) 1 ≡ false = ap (λ (t : Bool). pick t (eqb (signOf f w) 1) false) (sym (eq-eqb (exponentOf f w) 0 z)) ∙ n in
+          let d : (signOf f w ≡ 1 → ⊥) = eqb-false (signOf f w) 1 s in
+          omega (arith, d)
 
-        nothing : (s r : ℕ) → s ≡ 0 → r ≡ 0 → 0 ≡ s * 2147483648 + r
-        nothing s r e d = omega arith
-    go (inr p) =
-        let t = turned-split w l in
-        let large : 8388608 ≤ turned w = above (turned w) (signOf F w) (exponentOf F w) (fractionOf F w) t p in
-        ap (λ (b : Bool). cond b 0 (turned w)) (le-ltb (turned w) 8388608 large) ∙ t ∙ ap (λ (z : ℕ). signOf F w * 2147483648 + z) (sym (full-rank F F-sound w p))
-      where
-        above : (t s e x : ℕ) → t ≡ s * 2147483648 + (e * 8388608 + x) → 0 < e → 8388608 ≤ t
-        above t s e x h k = omega arith
+      bare : (m : ℕ) → signOf f w ≡ 0 → signOf f w * magnitudes f + m ≡ m
+      bare m z = let e : signOf f w * magnitudes f ≡ 0 = ap (λ (k : ℕ). k * magnitudes f) z ∙ zero-mul (magnitudes f) in omega arith
 
-pub level-made : (w t r : ℕ) → t ≡ turned w → r ≡ cond (ltb t 8388608) 0 t → r ≡ level w
-level-made w t r ht hr = hr ∙ ap (λ (z : ℕ). cond (ltb z 8388608) 0 z) ht
+      go : (exponentOf f w ≡ 0) ⊎ (0 < exponentOf f w) → level f w ≡ signOf f w * magnitudes f + rank f w
+      go (inl z) =
+          let x = fraction-lt f S w in
+          let none : exponentOf f w * q ≡ 0 = ap (λ (k : ℕ). k * q) z ∙ zero-mul q in
+          let s = sign-none z in
+          let row : ordinal f w ≡ magnitude f w = bare (magnitude f w) s in
+          let small : ordinal f w < q = omega arith in
+          ap (λ (t : Bool). pick t 0 (ordinal f w)) (lt-ltb (ordinal f w) q small) ∙ sym (bare (rank f w) s ∙ zero-rank f S w z)
+      go (inr p) =
+          let one : 1 * q ≤ exponentOf f w * q = mul-le-mul-right q p in
+          let e : 1 * q ≡ q = one-mul q in
+          let large : q ≤ ordinal f w = omega arith in
+          ap (λ (t : Bool). pick t 0 (ordinal f w)) (le-ltb (ordinal f w) q large) ∙ ap (λ (z : ℕ). signOf f w * magnitudes f + z) (sym (full-rank f S w p))
 
-rank-lt : (w : ℕ) → rank F w < 2147483648
-rank-lt w = go (eqb (exponentOf F w) 0)
-  where
-    go : (t : Bool) → cond t 0 (magnitude F w) < 2147483648
-    go true = lit< tt
-    go false = let e = exponent-lt F F-sound w in let x = fraction-lt F F-sound w in omega arith
+pub level-made : (w t r : ℕ) → w < 2 ^ 32 → t ≡ swapped w → r ≡ pick (ltb t (2 ^ (F .bits - 1))) 0 t → r ≡ level F w
+level-made w t r l ht hr = hr ∙ ap (λ (z : ℕ). pick (ltb z (2 ^ (F .bits - 1))) 0 z) (ht ∙ swapped-split w l)
 
 -- the code's number of a pair, which rises where the first is less
-module _ (x y p q : ℕ) (hp : p ≡ cond (ltb x y) 2 0) (hq : q ≡ cond (eqb x y) 1 0) where
+module _ (x y p q : ℕ) (hp : p ≡ pick (ltb x y) 2 0) (hq : q ≡ pick (eqb x y) 1 0) where
   rising-less : x < y → p + q ≡ 2
   rising-less h =
       let n : (x ≡ y → ⊥) = λ e. omega arith in
-      let a : p ≡ 2 = hp ∙ ap (λ (z : Bool). cond z 2 0) (lt-ltb x y h) in
-      let b : q ≡ 0 = hq ∙ ap (λ (z : Bool). cond z 1 0) (ne-eqb x y n) in
+      let a : p ≡ 2 = hp ∙ ap (λ (z : Bool). pick z 2 0) (lt-ltb x y h) in
+      let b : q ≡ 0 = hq ∙ ap (λ (z : Bool). pick z 1 0) (ne-eqb x y n) in
       omega arith
 
   rising-same : x ≡ y → p + q ≡ 1
   rising-same e =
-      let a : p ≡ 0 = hp ∙ ap (λ (z : Bool). cond z 2 0) (le-ltb x y (le-of-eq (sym e))) in
-      let b : q ≡ 1 = hq ∙ ap (λ (z : Bool). cond z 1 0) (eq-eqb x y e) in
+      let a : p ≡ 0 = hp ∙ ap (λ (z : Bool). pick z 2 0) (le-ltb x y (le-of-eq (sym e))) in
+      let b : q ≡ 1 = hq ∙ ap (λ (z : Bool). pick z 1 0) (eq-eqb x y e) in
       omega arith
 
   rising-more : y < x → p + q ≡ 0
   rising-more h =
       let n : (x ≡ y → ⊥) = λ e. omega arith in
-      let a : p ≡ 0 = hp ∙ ap (λ (z : Bool). cond z 2 0) (le-ltb x y (le-of-lt h)) in
-      let b : q ≡ 0 = hq ∙ ap (λ (z : Bool). cond z 1 0) (ne-eqb x y n) in
+      let a : p ≡ 0 = hp ∙ ap (λ (z : Bool). pick z 2 0) (le-ltb x y (le-of-lt h)) in
+      let b : q ≡ 0 = hq ∙ ap (λ (z : Bool). pick z 1 0) (ne-eqb x y n) in
       omega arith
 
   pub rising-most : p + q ≤ 2
@@ -176,106 +184,161 @@ module _ (x y p q : ℕ) (hp : p ≡ cond (ltb x y) 2 0) (hq : q ≡ cond (eqb x
       go (less h) = let r = rising-less h in omega arith
       go (more h) = let r = rising-more h in omega arith
 
-  module _ (r : ℕ) (hr : r ≡ cond (ltb 2147483647 x || ltb 2147483647 y) (2 - (p + q)) (p + q)) where
-    both-up : (k : ℕ) → x < 2147483648 → y < 2147483648 → p + q ≡ k → r ≡ k
+  -- numbers from n on have the sign
+  module _ (n r : ℕ) (hr : r ≡ pick (leb n x || leb n y) (2 - (p + q)) (p + q)) where
+    both-up : (k : ℕ) → x < n → y < n → p + q ≡ k → r ≡ k
     both-up k hx hy e =
-        let a : ltb 2147483647 x ≡ false = le-ltb 2147483647 x (omega arith) in
-        let b : ltb 2147483647 y ≡ false = le-ltb 2147483647 y (omega arith) in
-        hr ∙ ap (λ (z : Bool). cond (z || ltb 2147483647 y) (2 - (p + q)) (p + q)) a ∙ ap (λ (z : Bool). cond z (2 - (p + q)) (p + q)) b ∙ e
+        hr
+        ∙ ap₂ (λ (s t : Bool). pick (s || t) (2 - (p + q)) (p + q)) (lt-leb n x hx) (lt-leb n y hy)
+        ∙ e
 
-    one-down : (k : ℕ) → (ltb 2147483647 x || ltb 2147483647 y) ≡ true → p + q ≡ k → r ≡ 2 - k
-    one-down k t e = hr ∙ ap (λ (z : Bool). cond z (2 - (p + q)) (p + q)) t ∙ ap (λ (z : ℕ). 2 - z) e
+    one-down : (k : ℕ) → (leb n x || leb n y) ≡ true → p + q ≡ k → r ≡ 2 - k
+    one-down k t e = hr ∙ ap (λ (z : Bool). pick z (2 - (p + q)) (p + q)) t ∙ ap (λ (z : ℕ). 2 - z) e
 
-    left-down : 2147483647 < x → (ltb 2147483647 x || ltb 2147483647 y) ≡ true
-    left-down h = ap (λ (z : Bool). z || ltb 2147483647 y) (lt-ltb 2147483647 x h)
+    left-down : n ≤ x → (leb n x || leb n y) ≡ true
+    left-down h = ap (λ (z : Bool). z || leb n y) (le-leb n x h)
 
-    right-down : 2147483647 < y → (ltb 2147483647 x || ltb 2147483647 y) ≡ true
-    right-down h = ap (λ (z : Bool). ltb 2147483647 x || z) (lt-ltb 2147483647 y h) ∙ either (ltb 2147483647 x)
+    right-down : n ≤ y → (leb n x || leb n y) ≡ true
+    right-down h = ap (λ (z : Bool). leb n x || z) (le-leb n y h) ∙ either (leb n x)
       where
         either : (t : Bool) → (t || true) ≡ true
         either true = refl
         either false = refl
 
-    module _ (s t u v : ℕ) (hx : x ≡ s * 2147483648 + u) (hy : y ≡ t * 2147483648 + v) (hs : s < 2) (ht : t < 2) (hu : u < 2147483648) (hv : v < 2147483648) where
+    module _ (s t u v : ℕ) (hx : x ≡ s * n + u) (hy : y ≡ t * n + v) (hs : s < 2) (ht : t < 2) (hu : u < n) (hv : v < n) where
+      -- a number without the sign, and with it
+      up : (k m i : ℕ) → k ≡ i * n + m → i ≡ 0 → k ≡ m
+      up k m i e z = let g : i * n ≡ 0 = ap (λ (j : ℕ). j * n) z ∙ zero-mul n in omega arith
+
+      down : (k m i : ℕ) → k ≡ i * n + m → i ≡ 1 → k ≡ n + m
+      down k m i e z = let g : i * n ≡ n = ap (λ (j : ℕ). j * n) z ∙ one-mul n in omega arith
+
       by-signs : (s ≡ t → ⊥) → r ≡ s * 2
-      by-signs n = go (eq-zero-or-pos s)
+      by-signs d = go (eq-zero-or-pos s)
         where
           go : (s ≡ 0) ⊎ (0 < s) → r ≡ s * 2
-          go (inl z) = one-down 2 (right-down (omega (arith, n))) (rising-less (omega (arith, n))) ∙ ap (λ (k : ℕ). k * 2) (sym z)
+          go (inl z) =
+              let a = up x u s hx z in
+              let b = down y v t hy (omega (arith, d)) in
+              one-down 2 (right-down (omega arith)) (rising-less (omega arith)) ∙ ap (λ (k : ℕ). k * 2) (sym z)
           go (inr o) =
               let e : s ≡ 1 = omega arith in
-              one-down 0 (left-down (omega arith)) (rising-more (omega (arith, n))) ∙ ap (λ (k : ℕ). k * 2) (sym e)
+              let a = down x u s hx e in
+              let b = up y v t hy (omega (arith, d)) in
+              one-down 0 (left-down (omega arith)) (rising-more (omega arith)) ∙ ap (λ (k : ℕ). k * 2) (sym e)
 
       -- either way
-      by-ranks : (k : ℕ) → s ≡ t → p + q ≡ k → r ≡ cond (eqb s 1) (2 - k) k
+      by-ranks : (k : ℕ) → s ≡ t → p + q ≡ k → r ≡ pick (eqb s 1) (2 - k) k
       by-ranks k e w = go (eq-zero-or-pos s)
         where
-          go : (s ≡ 0) ⊎ (0 < s) → r ≡ cond (eqb s 1) (2 - k) k
-          go (inl z) = both-up k (omega arith) (omega arith) w ∙ ap (λ (j : ℕ). cond (eqb j 1) (2 - k) k) (sym z)
+          go : (s ≡ 0) ⊎ (0 < s) → r ≡ pick (eqb s 1) (2 - k) k
+          go (inl z) =
+              let a = up x u s hx z in
+              let b = up y v t hy (sym e ∙ z) in
+              both-up k (omega arith) (omega arith) w ∙ ap (λ (j : ℕ). pick (eqb j 1) (2 - k) k) (sym z)
           go (inr o) =
               let i : s ≡ 1 = omega arith in
-              one-down k (left-down (omega arith)) w ∙ ap (λ (j : ℕ). cond (eqb j 1) (2 - k) k) (sym i)
+              let a = down x u s hx i in
+              one-down k (left-down (omega arith)) w ∙ ap (λ (j : ℕ). pick (eqb j 1) (2 - k) k) (sym i)
 
-pub side-found : (a b x y p q r : ℕ) → a < 4294967296 → b < 4294967296 → isReserved F a ≡ false → isReserved F b ≡ false → x ≡ level a → y ≡ level b → p ≡ cond (ltb x y) 2 0 → q ≡ cond (eqb x y) 1 0 → r ≡ cond (ltb 2147483647 x || ltb 2147483647 y) (2 - (p + q)) (p + q) → r ≡ side (minus (valueOf F a) (valueOf F b))
-side-found a b x y p q r la lb na nb hx hy hp hq hr = go (signs (signOf F a) (signOf F b)) (order (rank F a) (rank F b))
-  where
-    ex : x ≡ signOf F a * 2147483648 + rank F a
-    ex = hx ∙ level-is a la na
+module _ (f : Format) (S : Sound f) (a b x y p q r : ℕ) (na : isReserved f a ≡ false) (nb : isReserved f b ≡ false)
+    (hx : x ≡ level f a) (hy : y ≡ level f b) where
+  pub side-found : p ≡ pick (ltb x y) 2 0 → q ≡ pick (eqb x y) 1 0 → r ≡ pick (leb (magnitudes f) x || leb (magnitudes f) y) (2 - (p + q)) (p + q)
+      → r ≡ side (minus (valueOf f a) (valueOf f b))
+  side-found hp hq hr = go (signs s t) (order (rank f a) (rank f b))
+    where
+      s : ℕ
+      s = signOf f a
 
-    ey : y ≡ signOf F b * 2147483648 + rank F b
-    ey = hy ∙ level-is b lb nb
+      t : ℕ
+      t = signOf f b
 
-    ranked : (k o : ℕ) → signOf F a ≡ signOf F b → p + q ≡ k → cond (eqb (signOf F a) 1) (2 - k) k ≡ o → r ≡ o
-    ranked k o e w h = by-ranks x y p q hp hq r hr (signOf F a) (signOf F b) (rank F a) (rank F b) ex ey (sign-lt F a) (sign-lt F b) (rank-lt a) (rank-lt b) k e w ∙ h
+      ex : x ≡ s * magnitudes f + rank f a
+      ex = hx ∙ level-is f S a na
 
-    twice : (s : ℕ) → s < 2 → cond (eqb s 1) 2 0 ≡ s * 2
-    twice zero l = refl
-    twice (suc zero) l = refl
-    twice (suc (suc k)) l = absurd (omega arith)
+      ey : y ≡ t * magnitudes f + rank f b
+      ey = hy ∙ level-is f S b nb
 
-    less-twice : (s : ℕ) → s < 2 → cond (eqb s 1) 0 2 ≡ 2 - s * 2
-    less-twice zero l = refl
-    less-twice (suc zero) l = refl
-    less-twice (suc (suc k)) l = absurd (omega arith)
+      told : s ≡ t → s * magnitudes f ≡ t * magnitudes f
+      told e = ap (λ (k : ℕ). k * magnitudes f) e
 
-    alike : (t : Bool) → _≡_ {A = ℕ} (cond t 1 1) 1
-    alike true = refl
-    alike false = refl
+      ranked : (k o : ℕ) → s ≡ t → p + q ≡ k → pick (eqb s 1) (2 - k) k ≡ o → r ≡ o
+      ranked k o e w h =
+          by-ranks x y p q hp hq (magnitudes f) r hr s t (rank f a) (rank f b) ex ey (sign-lt f a) (sign-lt f b) (rank-lt f S a) (rank-lt f S b) k e w ∙ h
 
-    go : (signOf F a ≡ signOf F b) ⊎ (signOf F a ≡ signOf F b → ⊥) → Test (rank F a) (rank F b) → r ≡ side (minus (valueOf F a) (valueOf F b))
-    go (inr n) o = by-signs x y p q hp hq r hr (signOf F a) (signOf F b) (rank F a) (rank F b) ex ey (sign-lt F a) (sign-lt F b) (rank-lt a) (rank-lt b) n ∙ sides-apart F F-sound a b (signOf F a) na nb refl (signOf F b) refl n
-    go (inl e) (same h) = ranked 1 1 e (rising-same x y p q hp hq (omega (arith, ex, ey))) (alike (eqb (signOf F a) 1)) ∙ sides-equal F F-sound a b (signOf F a) na nb refl (signOf F b) refl e (rank F a) (rank F b) refl refl h
-    go (inl e) (more h) = ranked 0 (signOf F a * 2) e (rising-more x y p q hp hq (omega (arith, ex, ey))) (twice (signOf F a) (sign-lt F a)) ∙ sides-more F F-sound a b (signOf F a) na nb refl (signOf F b) refl e (rank F a) (rank F b) refl refl h
-    go (inl e) (less h) = ranked 2 (2 - signOf F a * 2) e (rising-less x y p q hp hq (omega (arith, ex, ey))) (less-twice (signOf F a) (sign-lt F a)) ∙ sides-less F F-sound a b (signOf F a) na nb refl (signOf F b) refl e (rank F a) (rank F b) refl refl (λ z. omega arith) (le-of-lt h)
+      twice : (s : ℕ) → s < 2 → pick (eqb s 1) 2 0 ≡ s * 2
+      twice zero l = refl
+      twice (suc zero) l = refl
+      twice (suc (suc k)) l = absurd (omega arith)
+
+      less-twice : (s : ℕ) → s < 2 → pick (eqb s 1) 0 2 ≡ 2 - s * 2
+      less-twice zero l = refl
+      less-twice (suc zero) l = refl
+      less-twice (suc (suc k)) l = absurd (omega arith)
+
+      alike : (t : Bool) → _≡_ {A = ℕ} (pick t 1 1) 1
+      alike true = refl
+      alike false = refl
+
+      go : (s ≡ t) ⊎ (s ≡ t → ⊥) → Test (rank f a) (rank f b) → r ≡ side (minus (valueOf f a) (valueOf f b))
+      go (inr n) o =
+          by-signs x y p q hp hq (magnitudes f) r hr s t (rank f a) (rank f b) ex ey (sign-lt f a) (sign-lt f b) (rank-lt f S a) (rank-lt f S b) n
+          ∙ sides-apart f S a b na nb n
+      go (inl e) (same h) =
+          let m = told e in
+          ranked 1 1 e (rising-same x y p q hp hq (omega (arith, ex, ey))) (alike (eqb s 1)) ∙ sides-equal f S a b na nb e h
+      go (inl e) (more h) =
+          let m = told e in
+          ranked 0 (s * 2) e (rising-more x y p q hp hq (omega (arith, ex, ey))) (twice s (sign-lt f a)) ∙ sides-more f S a b na nb e h
+      go (inl e) (less h) =
+          let m = told e in
+          ranked 2 (2 - s * 2) e (rising-less x y p q hp hq (omega (arith, ex, ey))) (less-twice s (sign-lt f a)) ∙ sides-less f S a b na nb e h
 
 -- ---- the relation, and the answer
-pub holds-is : (relation o : ℕ) → relation < 8 → not (Bool·beq (eqb o (relation % 4)) (eqb (relation / 4 % 2) 1)) ≡ holds relation o
-holds-is relation o l = go (ltb relation 4) (ltb→lt relation 4) (nltb→le relation 4)
+-- by how the number lies to zero, and bits <1:0> and <2> of the relation
+side-related : (relation : ℕ) (x : Exact)
+    → not (Bool·beq (eqb (side x) (relation % 4)) (eqb (relation / 4 % 2) 1))
+    ≡ relationHolds relation (not (eqb (x .num) 0) && eqb (x .sign) 1) (eqb (x .num) 0)
+side-related relation x = at (eqb (x .num) 0) (eqb (x .sign) 1)
   where
-    by : (k n : ℕ) → relation % 4 ≡ k → relation / 4 % 2 ≡ n → not (Bool·beq (eqb o (relation % 4)) (eqb (relation / 4 % 2) 1)) ≡ not (Bool·beq (eqb o k) (eqb n 1))
-    by k n e d = ap (λ (z : ℕ). not (Bool·beq (eqb o z) (eqb (relation / 4 % 2) 1))) e ∙ ap (λ (z : ℕ). not (Bool·beq (eqb o k) (eqb z 1))) d
+    found : (none negative : Bool) (kind : ℕ) → kind < 4
+        → eqb (pick none 1 (pick negative 2 0)) kind
+        ≡ (eqb kind 0 && not (not none && negative || none) || eqb kind 1 && none || eqb kind 2 && (not none && negative))
+    found true n zero l = refl
+    found true n (suc zero) l = refl
+    found true n (suc (suc zero)) l = refl
+    found true n (suc (suc (suc zero))) l = refl
+    found true n (suc (suc (suc (suc k)))) l = absurd (omega arith)
+    found false true zero l = refl
+    found false true (suc zero) l = refl
+    found false true (suc (suc zero)) l = refl
+    found false true (suc (suc (suc zero))) l = refl
+    found false true (suc (suc (suc (suc k)))) l = absurd (omega arith)
+    found false false zero l = refl
+    found false false (suc zero) l = refl
+    found false false (suc (suc zero)) l = refl
+    found false false (suc (suc (suc zero))) l = refl
+    found false false (suc (suc (suc (suc k)))) l = absurd (omega arith)
 
-    plain : (t : Bool) → not (Bool·beq t false) ≡ t
-    plain true = refl
-    plain false = refl
-
-    opposite : (t : Bool) → not (Bool·beq t true) ≡ not t
-    opposite true = refl
-    opposite false = refl
-
-    go : (t : Bool) → (T t → relation < 4) → (T (not t) → 4 ≤ relation) → not (Bool·beq (eqb o (relation % 4)) (eqb (relation / 4 % 2) 1)) ≡ cond t (eqb o relation) (not (eqb o (relation - 4)))
-    go true g h = let k : relation < 4 = g tt in by relation 0 (omega arith) (omega arith) ∙ plain (eqb o relation)
-    go false g h = let k : 4 ≤ relation = h tt in by (relation - 4) 1 (omega arith) (omega arith) ∙ opposite (eqb o (relation - 4))
+    at : (none negative : Bool)
+        → not (Bool·beq (eqb (pick none 1 (pick negative 2 0)) (relation % 4)) (eqb (relation / 4 % 2) 1)) ≡ relationHolds relation (not none && negative) none
+    at none negative =
+        ap (λ (t : Bool). not (Bool·beq t (eqb (relation / 4 % 2) 1))) (found none negative (relation % 4) (omega arith))
+        ∙ by-parts relation (not none && negative) none
 
 module _ (f : Format) (relation a b : ℕ) where
   pub compare-left : (t : Bool) → t ≡ isReserved f a → t ≡ true → record { bit = false; types = 4 } ≡ compared f relation a b
   compare-left t h y = let e : isReserved f a ≡ true = sym h ∙ y in sym (simp e)
 
-  pub compare-right : (t u : Bool) → t ≡ isReserved f a → t ≡ false → u ≡ isReserved f b → u ≡ true → record { bit = false; types = 4 } ≡ compared f relation a b
+  pub compare-right : (t u : Bool) → t ≡ isReserved f a → t ≡ false → u ≡ isReserved f b → u ≡ true
+      → record { bit = false; types = 4 } ≡ compared f relation a b
   compare-right t u h n g y = let e : isReserved f a ≡ false = sym h ∙ n in let e' : isReserved f b ≡ true = sym g ∙ y in sym (simp (e, e'))
 
-  pub compare-both : (t u v : Bool) (o : ℕ) → t ≡ isReserved f a → t ≡ false → u ≡ isReserved f b → u ≡ false → o ≡ side (minus (valueOf f a) (valueOf f b)) → v ≡ holds (relation % 8) o → record { bit = v; types = 0 } ≡ compared f relation a b
+  pub compare-both : (t u v : Bool) (o : ℕ) → t ≡ isReserved f a → t ≡ false → u ≡ isReserved f b → u ≡ false → o ≡ side (minus (valueOf f a) (valueOf f b))
+      → v ≡ not (Bool·beq (eqb o (relation % 4)) (eqb (relation / 4 % 2) 1)) → record { bit = v; types = 0 } ≡ compared f relation a b
   compare-both t u v o h n g m ho hv =
       let e1 : isReserved f a ≡ false = sym h ∙ n in
       let e2 : isReserved f b ≡ false = sym g ∙ m in
-      ap (λ (z : Bool). record { bit = z; types = 0 }) (hv ∙ ap (holds (relation % 8)) ho) ∙ sym (simp (e1, e2))
+      ap (λ (z : Bool). record { bit = z; types = 0 })
+      (hv ∙ ap (λ (z : ℕ). not (Bool·beq (eqb z (relation % 4)) (eqb (relation / 4 % 2) 1))) ho ∙ side-related relation (minus (valueOf f a) (valueOf f b)))
+      ∙ sym (simp (e1, e2))

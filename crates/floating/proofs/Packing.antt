@@ -1,18 +1,19 @@
 -- A format's fields fit into its words, and what is put into a word comes out of it. Over the format. Assumes nothing.
-use mathlib.Core.Path.{_≡_, refl, sym, ap, _∙_, subst}
+use mathlib.Core.Path.{_≡_, refl, sym, ap, ap₂, _∙_, subst}
 use mathlib.Core.Logic.{_⊎_, inl, inr}
 use Prim.Native.Nat.{ℕ, zero, suc, _+_, _-_, _*_, _/_, _%_, _^_, _≤_, _<_}
-use native.Mathlib.Nat.{sub-zero, eq-or-lt-of-le, lt-of-not-le, le-of-eq, lt-of-lt-of-le, lt-of-le-of-lt, mul-comm, mul-assoc, add-mul, pow-suc, mod-lt, mod-eq-of-lt, div-add-mod', div-div-eq-div-mul, div-lt-iff-lt-mul, mul-pos}
+use native.Mathlib.Nat.{sub-zero, eq-or-lt-of-le, lt-of-not-le, le-of-eq, le-trans, one-mul, le-div-iff-mul-le, lt-of-lt-of-le, lt-of-le-of-lt, mul-comm}
+use native.Mathlib.Nat.{mul-assoc, add-mul, pow-suc, mod-lt, mod-eq-of-lt, div-add-mod', div-div-eq-div-mul, div-lt-iff-lt-mul, mul-pos}
 use native.Mathlib.Omega.{arith}
 use lib.Dec.{lit<, lit≤}
 use lib.Arith.{digits-lt, digits-div, digits-mod, mod-mul}
 use lib.Pow.{pow-add, pow-pos, mod-pow-add}
 use Rattle.floating.specs.Format.{Format, F, upward, signOf, exponentOf, fractionOf, wordOf}
-use Rattle.floating.specs.declared.Outcome.the-variants.{Word, Overflow, Underflow}
+use Rattle.floating.specs.declared.Delivery.the-variants.{Word, Overflow, Underflow}
 use Rattle.floating.specs.Exact.{sizeOf}
 use Rattle.floating.specs.Round.{carried}
 use Rattle.floating.specs.Delivered.{judged}
-use Rattle.floating.specs.Steps.{turned, magnitude, packed, settled}
+use Rattle.floating.specs.Working.{swapped, magnitude, magnitudes, ordinal, packed, settled}
 use Rattle.floating.proofs.Arithmetic.{double-power}
 use Rattle.floating.proofs.Rounding.{carried-in, carry-added}
 use Rattle.floating.proofs.Delivering.{judged-under, judged-over, judged-word, settled-moved, settled-below}
@@ -28,7 +29,7 @@ pub record Sound (f : Format) : Type 0 where
 pub F-sound : Sound F
 F-sound = record { first = lit< tt; top = lit≤ tt; filled = refl; range = refl }
 
--- ---- words of 16 bits, turned about
+-- ---- words of 16 bits, swapped about
 words-pos : (n : ℕ) → 0 < 65536 ^ n
 words-pos zero = lit< tt
 words-pos (suc n) = subst (λ (z : ℕ). 0 < z) (sym (pow-suc 65536 n)) (mul-pos (words-pos n) (lit< tt))
@@ -98,7 +99,8 @@ module _ (f : Format) (S : Sound f) where
       let less : w / 65536 < 65536 ^ n = div-lt-iff-lt-mul (lit< tt) .1 (lt-of-lt-of-le h (le-of-eq (mul-comm 65536 (65536 ^ n)))) in
       let high : fractionOf f w / 65536 ^ n ≡ w % 2 ^ (f .lowest) = digits-div (w % 2 ^ (f .lowest)) (upward-lt n (w / 65536)) in
       let low : fractionOf f w % 65536 ^ n ≡ u = digits-mod (w % 2 ^ (f .lowest)) (upward-lt n (w / 65536)) in
-      let below : exponentOf f w * 2 ^ (f .lowest) + w % 2 ^ (f .lowest) ≡ w % 32768 = sym (mod-pow-add w (15 - f .lowest) (f .lowest)) ∙ ap (λ (z : ℕ). w % 2 ^ z) l15 in
+      let below : exponentOf f w * 2 ^ (f .lowest) + w % 2 ^ (f .lowest) ≡ w % 32768 =
+      sym (mod-pow-add w (15 - f .lowest) (f .lowest)) ∙ ap (λ (z : ℕ). w % 2 ^ z) l15 in
       ap (λ (z : ℕ). signOf f w * 32768 + exponentOf f w * 2 ^ (f .lowest) + z + upward n (fractionOf f w % 65536 ^ n) * 65536) high
       ∙ ap (λ (z : ℕ). signOf f w * 32768 + exponentOf f w * 2 ^ (f .lowest) + w % 2 ^ (f .lowest) + upward n z * 65536) low
       ∙ ap (λ (z : ℕ). signOf f w * 32768 + exponentOf f w * 2 ^ (f .lowest) + w % 2 ^ (f .lowest) + z * 65536) (upward-twice n (w / 65536) less)
@@ -128,12 +130,14 @@ module _ (f : Format) (S : Sound f) where
         back s a b q h l = omega arith
 
     -- the word, by its exponent's field
-    placed : wordOf f s e x ≡ ((upward (f .further) (x % 65536 ^ (f .further)) * 2 + s) * 2 ^ (15 - f .lowest) + e) * 2 ^ (f .lowest) + x / 65536 ^ (f .further)
+    placed : wordOf f s e x
+        ≡ ((upward (f .further) (x % 65536 ^ (f .further)) * 2 + s) * 2 ^ (15 - f .lowest) + e) * 2 ^ (f .lowest) + x / 65536 ^ (f .further)
     placed = at (upward (f .further) (x % 65536 ^ (f .further))) (2 ^ (15 - f .lowest)) (2 ^ (f .lowest)) (x / 65536 ^ (f .further)) field
       where
         at : (q H L y : ℕ) → H * L ≡ 32768 → s * 32768 + e * L + y + q * 65536 ≡ ((q * 2 + s) * H + e) * L + y
         at q H L y k =
-            let a : ((q * 2 + s) * H + e) * L ≡ (q * 2 + s) * 32768 + e * L = add-mul ((q * 2 + s) * H) e L ∙ ap (λ (z : ℕ). z + e * L) (mul-assoc (q * 2 + s) H L ∙ ap (λ (z : ℕ). (q * 2 + s) * z) k) in
+            let a : ((q * 2 + s) * H + e) * L ≡ (q * 2 + s) * 32768 + e * L =
+            add-mul ((q * 2 + s) * H) e L ∙ ap (λ (z : ℕ). z + e * L) (mul-assoc (q * 2 + s) H L ∙ ap (λ (z : ℕ). (q * 2 + s) * z) k) in
             omega arith
 
     pub exponent-back : exponentOf f (wordOf f s e x) ≡ e
@@ -145,7 +149,8 @@ module _ (f : Format) (S : Sound f) where
     pub fraction-back : fractionOf f (wordOf f s e x) ≡ x
     fraction-back =
         let n = f .further in
-        let low : wordOf f s e x % 2 ^ (f .lowest) ≡ x / 65536 ^ n = ap (λ (z : ℕ). z % 2 ^ (f .lowest)) placed ∙ digits-mod ((upward n (x % 65536 ^ n) * 2 + s) * 2 ^ (15 - f .lowest) + e) in-first in
+        let low : wordOf f s e x % 2 ^ (f .lowest) ≡ x / 65536 ^ n =
+        ap (λ (z : ℕ). z % 2 ^ (f .lowest)) placed ∙ digits-mod ((upward n (x % 65536 ^ n) * 2 + s) * 2 ^ (15 - f .lowest) + e) in-first in
         let high : wordOf f s e x / 65536 ≡ upward n (x % 65536 ^ n) = over s (e * 2 ^ (f .lowest)) (x / 65536 ^ n) (upward n (x % 65536 ^ n)) in-half hs in
         ap (λ (z : ℕ). z * 65536 ^ n + upward n (wordOf f s e x / 65536)) low
         ∙ ap (λ (z : ℕ). x / 65536 ^ n * 65536 ^ n + upward n z) high
@@ -156,7 +161,8 @@ module _ (f : Format) (S : Sound f) where
         over s a b q h l = omega arith
 
   -- ---- so a word has the size that it was made of
-  pub size-back : (s e m : ℕ) → s < 2 → 0 < e → e ≤ f .largest → 2 ^ (f .bits - 1) ≤ m → m < 2 ^ (f .bits) → sizeOf f (wordOf f s e (m - 2 ^ (f .bits - 1))) ≡ m * 2 ^ e
+  pub size-back : (s e m : ℕ) → s < 2 → 0 < e → e ≤ f .largest → 2 ^ (f .bits - 1) ≤ m → m < 2 ^ (f .bits)
+      → sizeOf f (wordOf f s e (m - 2 ^ (f .bits - 1))) ≡ m * 2 ^ e
   size-back s e m hs pe he lo hi =
       let Q = 2 ^ (f .bits - 1) in
       let p1 = S .first in
@@ -172,7 +178,7 @@ module _ (f : Format) (S : Sound f) where
       ∙ ap (λ (z : ℕ). m * 2 ^ z) ee
 
 -- ---- the fields of 32 bits, as the code reads them
-half-split : (w : ℕ) → w % 32768 ≡ w / 128 % 256 * 128 + w % 128
+half-split : (w : ℕ) → w % 32768 ≡ exponentOf F w * 2 ^ (F .lowest) + w % 2 ^ (F .lowest)
 half-split w = mod-pow-add w 8 7
 
 pub magnitude-is : (w : ℕ) → w < 4294967296 → w % 32768 * 65536 + w / 65536 ≡ magnitude F w
@@ -182,102 +188,138 @@ magnitude-is w l =
     let k : w / 65536 % 65536 ≡ w / 65536 = mod-eq-of-lt g in
     omega arith
 
-pub turned-split : (w : ℕ) → w < 4294967296 → turned w ≡ signOf F w * 2147483648 + magnitude F w
-turned-split w l =
+pub swapped-split : (w : ℕ) → w < 4294967296 → swapped w ≡ ordinal F w
+swapped-split w l =
     let h : w % 65536 ≡ w / 32768 % 2 * 32768 + w % 32768 = mod-pow-add w 1 15 in
     let m = magnitude-is w l in
     omega arith
 
-pub magnitude-in : (w k : ℕ) → k ≡ magnitude F w → (exponentOf F w ≡ 0 → ⊥) → (8388608 ≤ k) × (k < 2147483648)
+pub magnitude-in : (w k : ℕ) → k ≡ magnitude F w → (exponentOf F w ≡ 0 → ⊥) → (2 ^ (F .bits - 1) ≤ k) × (k < magnitudes F)
 magnitude-in w k hk n = let e = exponent-lt F F-sound w in let x = fraction-lt F F-sound w in (omega (arith, n), omega arith)
 
--- ---- a rounded number in 32 bits, as the code packs it
-turned-is : (s e x : ℕ) → s < 2 → e ≤ 255 → x < 8388608 → turned (s * 2147483648 + (e * 8388608 + x)) ≡ wordOf F s e x
-turned-is s e x hs he hx =
+-- ---- a rounded number by its magnitude
+module _ (f : Format) (s e down m : ℕ) (P : 0 < f .bits) (lo : 2 ^ (f .bits - 1) ≤ m) (hi : m ≤ 2 ^ (f .bits)) where
+  abbrev q : ℕ
+  q = 2 ^ (f .bits - 1)
+
+  -- not below zero, with the field i before rounding and the magnitude k
+  module _ (i k : ℕ) (he : i + down ≡ e) (hk : k ≡ packed f i m) where
+    -- the field and the fraction after the carry
+    abbrev a : ℕ
+    a = carried (f .bits) m i .exp
+
+    abbrev x : ℕ
+    x = carried (f .bits) m i .sig - q
+
+    told : k ≡ a * q + x
+    told = hk ∙ carry-added (f .bits) i m P lo hi
+
+    below : x < q
+    below = let b = carried-in (f .bits) m i P lo in less (carried (f .bits) m i .sig) (b .0) (b .1)
+      where
+        less : (y : ℕ) → q ≤ y → y < 2 ^ (f .bits) → y - q < q
+        less y l h = let twice = double-power (f .bits) P in omega arith
+
+    field-is : k / q ≡ a
+    field-is = ap (λ (z : ℕ). z / q) told ∙ digits-div a below
+
+    fraction-is : k % q ≡ x
+    fraction-is = ap (λ (z : ℕ). z % q) told ∙ digits-mod a below
+
+    counted : judged f s (carried (f .bits) m i .sig) a ≡ settled f s e down m
+    counted =
+        let back : i + down ≡ e + 0 = omega arith in
+        ap (λ (z : ℕ). judged f s (carried (f .bits) m i .sig) z) (sym (sub-zero a)) ∙ settled-moved f s i 0 e down m back
+
+    some : q ≤ k → a ≡ 0 → ⊥
+    some h z =
+        let l : 1 ≤ k / q = le-div-iff-mul-le (pow-pos (f .bits - 1)) .1 (le-trans (le-of-eq (one-mul q)) h) in
+        none (k / q) l (field-is ∙ z)
+      where
+        none : (y : ℕ) → 1 ≤ y → y ≡ 0 → ⊥
+        none y l e = omega arith
+
+    pub settled-low : k < q → Underflow ≡ settled f s e down m
+    settled-low h =
+        let l : k / q < 1 = div-lt-iff-lt-mul (pow-pos (f .bits - 1)) .1 (lt-of-lt-of-le h (le-of-eq (sym (one-mul q)))) in
+        judged-under f s (carried (f .bits) m i .sig) a (sym field-is ∙ none (k / q) l) ∙ counted
+      where
+        none : (y : ℕ) → y < 1 → y ≡ 0
+        none y l = omega arith
+
+    pub settled-high : magnitudes f ≤ k → Overflow ≡ settled f s e down m
+    settled-high h =
+        let l : f .largest + 1 ≤ k / q = le-div-iff-mul-le (pow-pos (f .bits - 1)) .1 h in
+        judged-over f s (carried (f .bits) m i .sig) a (λ z. none (k / q) l (field-is ∙ z)) (past (k / q) a l field-is) ∙ counted
+      where
+        none : (y : ℕ) → f .largest + 1 ≤ y → y ≡ 0 → ⊥
+        none y l e = omega arith
+
+        past : (y a : ℕ) → f .largest + 1 ≤ y → y ≡ a → f .largest < a
+        past y a l e = omega arith
+
+    pub settled-at : (w : ℕ) → q ≤ k → k < magnitudes f → w ≡ wordOf f s (k / q) (k % q) → Word w ≡ settled f s e down m
+    settled-at w least most hw =
+        let l : k / q < f .largest + 1 = div-lt-iff-lt-mul (pow-pos (f .bits - 1)) .1 most in
+        judged-word f s (carried (f .bits) m i .sig) a w (some least) (within (k / q) a l field-is) (hw ∙ ap₂ (wordOf f s) field-is fraction-is) ∙ counted
+      where
+        within : (y a : ℕ) → y < f .largest + 1 → y ≡ a → a ≤ f .largest
+        within y a l e = omega arith
+
+-- ---- in 32 bits, as the code packs an F number
+swapped-is : (s e x : ℕ) → s < 2 → e ≤ F .largest → x < 2 ^ (F .bits - 1) → swapped (s * magnitudes F + (e * 2 ^ (F .bits - 1) + x)) ≡ wordOf F s e x
+swapped-is s e x hs he hx =
     let h = x / 65536 in
     let l = x % 65536 in
     let l' : l < 65536 = mod-lt x (lit< tt) in
-    let v : s * 2147483648 + (e * 8388608 + x) ≡ (s * 32768 + e * 128 + h) * 65536 + l = omega arith in
-    ap turned v
-    ∙ ap (λ (z : ℕ). z * 65536 + ((s * 32768 + e * 128 + h) * 65536 + l) / 65536) (digits-mod (s * 32768 + e * 128 + h) l')
-    ∙ ap (λ (z : ℕ). l * 65536 + z) (digits-div (s * 32768 + e * 128 + h) l')
+    let v : s * magnitudes F + (e * 2 ^ (F .bits - 1) + x) ≡ (s * 32768 + e * 2 ^ (F .lowest) + h) * 65536 + l = omega arith in
+    ap swapped v
+    ∙ ap (λ (z : ℕ). z * 65536 + ((s * 32768 + e * 2 ^ (F .lowest) + h) * 65536 + l) / 65536) (digits-mod (s * 32768 + e * 2 ^ (F .lowest) + h) l')
+    ∙ ap (λ (z : ℕ). l * 65536 + z) (digits-div (s * 32768 + e * 2 ^ (F .lowest) + h) l')
     ∙ last s e h l l'
   where
-    last : (s e h l : ℕ) → l < 65536 → l * 65536 + (s * 32768 + e * 128 + h) ≡ s * 32768 + e * 128 + h + (l % 65536 * 1 + 0) * 65536
+    last : (s e h l : ℕ) → l < 65536 → l * 65536 + (s * 32768 + e * 2 ^ (F .lowest) + h) ≡ s * 32768 + e * 2 ^ (F .lowest) + h + (l % 65536 * 1 + 0) * 65536
     last s e h l g = omega arith
 
-module _ (s e down m : ℕ) (lo : 8388608 ≤ m) (hi : m ≤ 16777216) where
-  -- not below zero, with the field i before rounding and the magnitude k
-  module _ (i k : ℕ) (he : i + down ≡ e) (hk : k ≡ packed F i m) where
-    told : k ≡ carried 24 m i .exp * 8388608 + (carried 24 m i .sig - 8388608)
-    told = hk ∙ carry-added 24 i m (lit< tt) lo hi
+pub swapped-word : (s k w : ℕ) → s < 2 → k < magnitudes F → w ≡ swapped (s * magnitudes F + k) → w ≡ wordOf F s (k / 2 ^ (F .bits - 1)) (k % 2 ^ (F .bits - 1))
+swapped-word s k w hs most hw =
+    hw
+    ∙ ap (λ (z : ℕ). swapped (s * magnitudes F + z)) (sym (div-add-mod' k (2 ^ (F .bits - 1))))
+    ∙ swapped-is s (k / 2 ^ (F .bits - 1)) (k % 2 ^ (F .bits - 1)) hs (omega arith) (mod-lt k (lit< tt))
 
-    below : carried 24 m i .sig - 8388608 < 8388608
-    below = let b = carried-in 24 m i (lit< tt) lo in less (carried 24 m i .sig) (b .0) (b .1)
-      where
-        less : (y : ℕ) → 8388608 ≤ y → y < 16777216 → y - 8388608 < 8388608
-        less y l h = omega arith
+module _ (s e down m k : ℕ) (lo : 2 ^ (F .bits - 1) ≤ m) (hi : m ≤ 2 ^ (F .bits))
+    (low-most : down ≤ e + F .largest) (high-most : e < down + 2 * F .largest)
+    (hk : k ≡ packed F ((e + 2 * (F .largest + 1) - down) % (2 * (F .largest + 1))) m % 2 ^ 32) where
+  -- a field below zero is twice the fields more, so one in range is not below zero
+  reached : 2 ^ (F .bits - 1) ≤ k → k < magnitudes F → down ≤ e
+  reached a b = omega arith
 
-    counted : judged F s (carried 24 m i .sig) (carried 24 m i .exp) ≡ settled F s e down m
-    counted =
-        let back : i + down ≡ e + 0 = omega arith in
-        ap (λ (z : ℕ). judged F s (carried 24 m i .sig) z) (sym (sub-zero (carried 24 m i .exp))) ∙ settled-moved F s i 0 e down m back
+  whole : down ≤ e → k ≡ packed F (e - down) m
+  whole h = omega arith
 
-    some : 8388608 ≤ k → carried 24 m i .exp ≡ 0 → ⊥
-    some h = at (carried 24 m i .exp) (carried 24 m i .sig - 8388608) below told
-      where
-        at : (a x : ℕ) → x < 8388608 → k ≡ a * 8388608 + x → a ≡ 0 → ⊥
-        at a x l e z = omega arith
+  back : down ≤ e → e - down + down ≡ e
+  back h = omega arith
 
-    low : k < 8388608 → Underflow ≡ settled F s e down m
-    low h = judged-under F s (carried 24 m i .sig) (carried 24 m i .exp) (at (carried 24 m i .exp) (carried 24 m i .sig - 8388608) told) ∙ counted
-      where
-        at : (a x : ℕ) → k ≡ a * 8388608 + x → a ≡ 0
-        at a x e = omega arith
+  pub settled-under : e ≤ down → (2 ^ (F .bits - 1) ≤ k → k < magnitudes F → ⊥) → Underflow ≡ settled F s e down m
+  settled-under h out = go (eq-or-lt-of-le h)
+    where
+      go : (e ≡ down) ⊎ (e < down) → Underflow ≡ settled F s e down m
+      go (inl z) =
+          settled-low F s e down m (lit< tt) lo hi (e - down) k (back (le-of-eq (sym z))) (whole (le-of-eq (sym z))) (lt-of-not-le (λ l. out l (omega arith)))
+      go (inr l) = settled-below F s e down m l
 
-    high : 2147483647 < k → Overflow ≡ settled F s e down m
-    high h = judged-over F s (carried 24 m i .sig) (carried 24 m i .exp) (some (omega arith)) (at (carried 24 m i .exp) (carried 24 m i .sig - 8388608) below told) ∙ counted
-      where
-        at : (a x : ℕ) → x < 8388608 → k ≡ a * 8388608 + x → 255 < a
-        at a x l e = omega arith
+  pub settled-over : down < e → (2 ^ (F .bits - 1) ≤ k → k < magnitudes F → ⊥) → Overflow ≡ settled F s e down m
+  settled-over h out =
+      let l : down ≤ e = omega arith in
+      settled-high F s e down m (lit< tt) lo hi (e - down) k (back l) (whole l) (let n : (k < magnitudes F → ⊥) = out (omega arith) in omega (arith, n))
 
-    pub settled-at : (w : ℕ) → s < 2 → 8388608 ≤ k → k ≤ 2147483647 → w ≡ turned (s * 2147483648 + k) → Word w ≡ settled F s e down m
-    settled-at w hs least most hw =
-        let a = carried 24 m i .exp in
-        let x = carried 24 m i .sig - 8388608 in
-        let within : a ≤ 255 = at a x told in
-        judged-word F s (carried 24 m i .sig) a w (some least) within (hw ∙ ap (λ (z : ℕ). turned (s * 2147483648 + z)) told ∙ turned-is s a x hs within below) ∙ counted
-      where
-        at : (a x : ℕ) → k ≡ a * 8388608 + x → a ≤ 255
-        at a x e = omega arith
-
-  -- as the code has it: a field below zero is 512 more
-  module _ (k : ℕ) (low-most : down ≤ e + 255) (high-most : e < down + 500) (hk : k ≡ packed F ((e + 512 - down) % 512) m % 4294967296) where
-    -- so one in range is not below zero
-    reached : 8388608 ≤ k → k ≤ 2147483647 → down ≤ e
-    reached a b = omega arith
-
-    whole : down ≤ e → k ≡ packed F (e - down) m
-    whole h = omega arith
-
-    back : down ≤ e → e - down + down ≡ e
-    back h = omega arith
-
-    pub settled-under : e ≤ down → (8388608 ≤ k → k ≤ 2147483647 → ⊥) → Underflow ≡ settled F s e down m
-    settled-under h out = go (eq-or-lt-of-le h)
-      where
-        go : (e ≡ down) ⊎ (e < down) → Underflow ≡ settled F s e down m
-        go (inl z) = low (e - down) k (back (le-of-eq (sym z))) (whole (le-of-eq (sym z))) (lt-of-not-le (λ l. out l (omega arith)))
-        go (inr l) = settled-below F s e down m l
-
-    pub settled-over : down < e → (8388608 ≤ k → k ≤ 2147483647 → ⊥) → Overflow ≡ settled F s e down m
-    settled-over h out = let l : down ≤ e = omega arith in high (e - down) k (back l) (whole l) (lt-of-not-le (out (omega arith)))
-
-    pub settled-word : (w : ℕ) → s < 2 → 8388608 ≤ k → k ≤ 2147483647 → w ≡ turned (s * 2147483648 + k) → Word w ≡ settled F s e down m
-    settled-word w hs least most hw = let l = reached least most in settled-at (e - down) k (back l) (whole l) w hs least most hw
+  pub settled-word : (w : ℕ) → s < 2 → 2 ^ (F .bits - 1) ≤ k → k < magnitudes F → w ≡ swapped (s * magnitudes F + k) → Word w ≡ settled F s e down m
+  settled-word w hs least most hw =
+      let l = reached least most in
+      settled-at F s e down m (lit< tt) lo hi (e - down) k (back l) (whole l) w least most (swapped-word s k w hs most hw)
 
 -- ---- a word's own fields, packed
-pub magnitude-word : (s w k r : ℕ) → s < 2 → k ≡ magnitude F w → r ≡ turned (s * 2147483648 + k) → r ≡ wordOf F s (exponentOf F w) (fractionOf F w)
+pub magnitude-word : (s w k r : ℕ) → s < 2 → k ≡ magnitude F w → r ≡ swapped (s * magnitudes F + k) → r ≡ wordOf F s (exponentOf F w) (fractionOf F w)
 magnitude-word s w k r hs hk hr =
     let l = exponent-lt F F-sound w in
-    hr ∙ ap (λ (z : ℕ). turned (s * 2147483648 + z)) hk ∙ turned-is s (exponentOf F w) (fractionOf F w) hs (omega arith) (fraction-lt F F-sound w)
+    hr ∙ ap (λ (z : ℕ). swapped (s * magnitudes F + z)) hk ∙ swapped-is s (exponentOf F w) (fractionOf F w) hs (omega arith) (fraction-lt F F-sound w)

@@ -1,17 +1,19 @@
--- What an element receives of an outcome, and a reserved operand, which decides first (in a quotient, after a divisor that is zero). Assumes nothing.
+-- What an element receives of what is delivered, and a reserved operand, which decides first (in a quotient, after a divisor that is zero). Assumes nothing.
 use mathlib.Core.Path.{_≡_, refl, sym, ap, _∙_}
-use mathlib.Core.Bool.{Bool, true, false, cond, _&&_, _||_}
+use mathlib.Core.Bool.{Bool, true, false, _&&_, _||_}
 use Prim.Native.Nat.{ℕ}
 use native.Mathlib.Omega.{arith}
 use lib.Dec.{eqb}
 use borrow.Author.Tests.{eqb-true, eqb-false, ne-eqb}
-use Rattle.floating.specs.declared.Outcome.{Outcome}
-use Rattle.floating.specs.declared.Outcome.the-variants.{Word, Overflow, Underflow, Reserved}
-use Rattle.floating.specs.Format.{Format, exponentOf, isReserved, isRare}
+use Rattle.numbers.specs.Choice.{pick}
+use Rattle.floating.specs.declared.Delivery.{Delivery}
+use Rattle.floating.specs.declared.Delivery.the-variants.{Word, Overflow, Underflow, Reserved}
+use Rattle.floating.specs.Format.{Format, exponentOf, isReserved}
+use Rattle.floating.specs.Working.{isSpecial}
 use Rattle.floating.specs.Operations.{answered}
 
--- ---- the answer to an outcome
-module _ (exc : Bool) (o : Outcome) where
+-- ---- the answer to what is delivered
+module _ (exc : Bool) (o : Delivery) where
   pub answer-word : (w : ℕ) → Word w ≡ o → record { value = w; types = 0 } ≡ answered exc o
   answer-word w h = ap (answered exc) h
 
@@ -21,43 +23,44 @@ module _ (exc : Bool) (o : Outcome) where
   pub answer-reserved : Reserved ≡ o → record { value = 0x8004; types = 4 } ≡ answered exc o
   answer-reserved h = ap (answered exc) h
 
-  pub answer-under : (v t : ℕ) → v ≡ cond exc 0x8001 0 → t ≡ cond exc 1 0 → Underflow ≡ o → record { value = v; types = t } ≡ answered exc o
-  answer-under v t hv ht h = ap (λ (z : ℕ). record { value = z; types = t }) hv ∙ ap (λ (z : ℕ). record { value = cond exc 0x8001 0; types = z }) ht ∙ go exc ∙ ap (answered exc) h
+  pub answer-under : (v t : ℕ) → v ≡ pick exc 0x8001 0 → t ≡ pick exc 1 0 → Underflow ≡ o → record { value = v; types = t } ≡ answered exc o
+  answer-under v t hv ht h =
+      ap (λ (z : ℕ). record { value = z; types = t }) hv ∙ ap (λ (z : ℕ). record { value = pick exc 0x8001 0; types = z }) ht ∙ go exc ∙ ap (answered exc) h
     where
-      go : (x : Bool) → record { value = cond x 0x8001 0; types = cond x 1 0 } ≡ answered x Underflow
+      go : (x : Bool) → record { value = pick x 0x8001 0; types = pick x 1 0 } ≡ answered x Underflow
       go true = refl
       go false = refl
 
 -- ---- a reserved operand, by the tests that the code makes
-module _ (p q t u : Bool) (x : Outcome) (ht : t ≡ p) (hu : u ≡ q) where
-  pub refused : (t || u) ≡ true → Reserved ≡ cond p Reserved (cond q Reserved x)
-  refused h = go t u h ∙ ap (λ (z : Bool). cond z Reserved (cond u Reserved x)) ht ∙ ap (λ (z : Bool). cond p Reserved (cond z Reserved x)) hu
+module _ (p q t u : Bool) (x : Delivery) (ht : t ≡ p) (hu : u ≡ q) where
+  pub refused : (t || u) ≡ true → Reserved ≡ pick p Reserved (pick q Reserved x)
+  refused h = go t u h ∙ ap (λ (z : Bool). pick z Reserved (pick u Reserved x)) ht ∙ ap (λ (z : Bool). pick p Reserved (pick z Reserved x)) hu
     where
-      go : (t u : Bool) → (t || u) ≡ true → Reserved ≡ cond t Reserved (cond u Reserved x)
+      go : (t u : Bool) → (t || u) ≡ true → Reserved ≡ pick t Reserved (pick u Reserved x)
       go true u h = refl
       go false true h = refl
       go false false h = let z : _≡_ {A = ℕ} 0 1 = cc in absurd (omega arith)
 
-  pub passed : (t || u) ≡ false → x ≡ cond p Reserved (cond q Reserved x)
-  passed h = go t u h ∙ ap (λ (z : Bool). cond z Reserved (cond u Reserved x)) ht ∙ ap (λ (z : Bool). cond p Reserved (cond z Reserved x)) hu
+  pub passed : (t || u) ≡ false → x ≡ pick p Reserved (pick q Reserved x)
+  passed h = go t u h ∙ ap (λ (z : Bool). pick z Reserved (pick u Reserved x)) ht ∙ ap (λ (z : Bool). pick p Reserved (pick z Reserved x)) hu
     where
-      go : (t u : Bool) → (t || u) ≡ false → x ≡ cond t Reserved (cond u Reserved x)
+      go : (t u : Bool) → (t || u) ≡ false → x ≡ pick t Reserved (pick u Reserved x)
       go true u h = let z : _≡_ {A = ℕ} 0 1 = cc in absurd (omega arith)
       go false true h = let z : _≡_ {A = ℕ} 0 1 = cc in absurd (omega arith)
       go false false h = refl
 
 -- ---- two tests of one word
-pub both-tests : (x y : Bool) → (x && y) ≡ cond x y false
+pub both-tests : (x y : Bool) → (x && y) ≡ pick x y false
 both-tests true y = refl
 both-tests false y = refl
 
 -- ---- one test for both exponents
 module _ (f : Format) (a b : ℕ) where
   -- as the code makes it
-  pub rare-tested : (x y : ℕ) → x ≡ exponentOf f a → y ≡ exponentOf f b → (eqb x 0 || eqb y 0) ≡ isRare f a b
-  rare-tested x y hx hy = ap (λ (z : ℕ). eqb z 0 || eqb y 0) hx ∙ ap (λ (z : ℕ). eqb (exponentOf f a) 0 || eqb z 0) hy
+  pub special-tested : (x y : ℕ) → x ≡ exponentOf f a → y ≡ exponentOf f b → (eqb x 0 || eqb y 0) ≡ isSpecial f a b
+  special-tested x y hx hy = ap (λ (z : ℕ). eqb z 0 || eqb y 0) hx ∙ ap (λ (z : ℕ). eqb (exponentOf f a) 0 || eqb z 0) hy
 
-  pub none-zero : isRare f a b ≡ false → (exponentOf f a ≡ 0 → ⊥) × (exponentOf f b ≡ 0 → ⊥)
+  pub none-zero : isSpecial f a b ≡ false → (exponentOf f a ≡ 0 → ⊥) × (exponentOf f b ≡ 0 → ⊥)
   none-zero h = go (eqb (exponentOf f a) 0) (eqb (exponentOf f b) 0) refl refl h
     where
       go : (p q : Bool) → eqb (exponentOf f a) 0 ≡ p → eqb (exponentOf f b) 0 ≡ q → (p || q) ≡ false → (exponentOf f a ≡ 0 → ⊥) × (exponentOf f b ≡ 0 → ⊥)
@@ -65,7 +68,7 @@ module _ (f : Format) (a b : ℕ) where
       go false true e g h = let z : _≡_ {A = ℕ} 0 1 = cc in absurd (omega arith)
       go false false e g h = (eqb-false _ 0 e, eqb-false _ 0 g)
 
-  pub some-zero : isRare f a b ≡ true → (exponentOf f a ≡ 0 → ⊥) → exponentOf f b ≡ 0
+  pub some-zero : isSpecial f a b ≡ true → (exponentOf f a ≡ 0 → ⊥) → exponentOf f b ≡ 0
   some-zero h n = go (eqb (exponentOf f a) 0) (eqb (exponentOf f b) 0) refl refl h
     where
       go : (p q : Bool) → eqb (exponentOf f a) 0 ≡ p → eqb (exponentOf f b) 0 ≡ q → (p || q) ≡ true → exponentOf f b ≡ 0
@@ -78,5 +81,6 @@ pub number-free : (f : Format) (w : ℕ) → (exponentOf f w ≡ 0 → ⊥) → 
 number-free f w n = sym (simp (ne-eqb (exponentOf f w) 0 n))
 
 -- and two numbers are passed on to the operation
-pub numbers-passed : (f : Format) (a b : ℕ) (x : Outcome) → (exponentOf f a ≡ 0 → ⊥) → (exponentOf f b ≡ 0 → ⊥) → x ≡ cond (isReserved f a) Reserved (cond (isReserved f b) Reserved x)
+pub numbers-passed : (f : Format) (a b : ℕ) (x : Delivery) → (exponentOf f a ≡ 0 → ⊥) → (exponentOf f b ≡ 0 → ⊥)
+    → x ≡ pick (isReserved f a) Reserved (pick (isReserved f b) Reserved x)
 numbers-passed f a b x na nb = passed (isReserved f a) (isReserved f b) false false x (number-free f a na) (number-free f b nb) refl

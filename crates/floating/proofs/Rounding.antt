@@ -1,18 +1,20 @@
 -- The laws of `rounded`, over the number p of digits. Assumes nothing.
 use mathlib.Core.Path.{_≡_, refl, sym, ap, _∙_, subst}
-use mathlib.Core.Logic.{_⊎_, inl, inr}
-use Prim.Native.Nat.{ℕ, suc, _+_, _-_, _*_, _/_, _^_, _≤_, _<_}
-use native.Mathlib.Nat.{le-trans, le-of-eq, le-antisymm, sub-eq-zero-of-le, lt-of-le-of-lt, lt-of-lt-of-le, lt-of-not-le, not-le-of-lt, eq-or-lt-of-le, le-div-iff-mul-le, div-lt-iff-lt-mul, div-mul-le-self, lt-div-mul-add, div-div-eq-div-mul, mul-div-mul-right, add-mul-div-right, one-mul, mul-one, mul-comm, mul-assoc, mul-left-comm, mul-right-comm, add-mul, mul-le-mul-left, mul-le-mul-right, le-of-mul-le-mul-right, lt-of-mul-lt-mul-right, mul-pos, pow-suc}
+use Prim.Native.Nat.{ℕ, _+_, _-_, _*_, _/_, _^_, _≤_, _<_}
+use native.Mathlib.Nat.{le-trans, le-of-eq, le-antisymm, sub-eq-zero-of-le, lt-of-le-of-lt, lt-of-lt-of-le, lt-of-not-le, not-le-of-lt, le-div-iff-mul-le}
+use native.Mathlib.Nat.{div-lt-iff-lt-mul, div-mul-le-self, lt-div-mul-add, div-div-eq-div-mul, mul-div-mul-right, add-mul-div-right, one-mul, mul-one}
+use native.Mathlib.Nat.{mul-comm, mul-assoc, mul-left-comm, add-mul, mul-le-mul-left, mul-le-mul-right, mul-pos}
 use native.Mathlib.Omega.{arith}
-use mathlib.Core.Bool.{Bool, true, false, not, cond}
-use lib.Dec.{T, ltb, ltb→lt, nltb→le, lit<}
+use mathlib.Core.Bool.{Bool, true, false, not}
+use lib.Dec.{T, ltb, ltb→lt, nltb→le}
 use lib.Pow.{pow-add, pow-pos, pow-mono}
 use lib.Ieee.{size}
 use lib.Ieee.Digits.{size-lt, size-le, size-reaches}
 use lib.Ieee.Nearest.{div-mono, div-same}
 use borrow.Author.Tests.{lt-ltb, le-ltb}
+use Rattle.numbers.specs.Choice.{pick}
 use Rattle.floating.specs.Round.{near, places, Rounded, carried, rounded}
-use Rattle.floating.specs.Steps.{Enough, Normal}
+use Rattle.floating.specs.Working.{Enough, Normal}
 use Rattle.floating.proofs.Arithmetic.{pow-two, double-power}
 
 -- ---- the nearest whole number
@@ -40,18 +42,10 @@ module _ (n d : ℕ) (D : 0 < d) where
 
   pub near-le : (b : ℕ) → n < b * d → near n d ≤ b
   near-le b h =
-      let e : (b + 1) * (d * 2) ≡ b * d * 2 + d * 2 = add-mul b 1 (d * 2) ∙ ap (λ (z : ℕ). z + 1 * (d * 2)) (sym (mul-assoc b d 2)) ∙ ap (λ (z : ℕ). b * d * 2 + z) (one-mul (d * 2)) in
+      let e : (b + 1) * (d * 2) ≡ b * d * 2 + d * 2 =
+      add-mul b 1 (d * 2) ∙ ap (λ (z : ℕ). z + 1 * (d * 2)) (sym (mul-assoc b d 2)) ∙ ap (λ (z : ℕ). b * d * 2 + z) (one-mul (d * 2)) in
       let h2 : n * 2 + d < (b + 1) * (d * 2) = omega arith in
       let l : near n d < b + 1 = div-lt-iff-lt-mul twice-pos .1 h2 in
-      omega arith
-
-  -- what lies within the half unit is the nearest: uniqueness
-  pub near-only : (r : ℕ) → r * (d * 2) ≤ n * 2 + d → n * 2 < r * (d * 2) + d → near n d ≡ r
-  near-only r lo hi =
-      let e : (r + 1) * (d * 2) ≡ r * (d * 2) + d * 2 = add-mul r 1 (d * 2) ∙ ap (λ (z : ℕ). r * (d * 2) + z) (one-mul (d * 2)) in
-      let h2 : n * 2 + d < (r + 1) * (d * 2) = omega arith in
-      let l : near n d < r + 1 = div-lt-iff-lt-mul twice-pos .1 h2 in
-      let g : r ≤ near n d = le-div-iff-mul-le twice-pos .1 lo in
       omega arith
 
 -- a larger fraction is no nearer to a smaller number
@@ -70,8 +64,10 @@ pub near-floor : (n c u : ℕ) → 0 < c → 0 < u → near n (c * (u * 2)) ≡ 
 near-floor n c u C U =
     let W : 0 < u * 2 = omega arith in
     let one : (n * 2 + c * (u * 2)) / (c * (u * 2) * 2) ≡ (n + c * u) / (c * (u * 2)) =
-    ap (λ (z : ℕ). z / (c * (u * 2) * 2)) (ap (λ (z : ℕ). n * 2 + z) (sym (mul-assoc c u 2)) ∙ sym (add-mul n (c * u) 2)) ∙ mul-div-mul-right (n + c * u) (c * (u * 2)) (pow-pos 1) in
-    let two : (n / c * 2 + u * 2) / (u * 2 * 2) ≡ (n / c + u) / (u * 2) = ap (λ (z : ℕ). z / (u * 2 * 2)) (sym (add-mul (n / c) u 2)) ∙ mul-div-mul-right (n / c + u) (u * 2) (pow-pos 1) in
+    ap (λ (z : ℕ). z / (c * (u * 2) * 2)) (ap (λ (z : ℕ). n * 2 + z) (sym (mul-assoc c u 2)) ∙ sym (add-mul n (c * u) 2))
+    ∙ mul-div-mul-right (n + c * u) (c * (u * 2)) (pow-pos 1) in
+    let two : (n / c * 2 + u * 2) / (u * 2 * 2) ≡ (n / c + u) / (u * 2) =
+    ap (λ (z : ℕ). z / (u * 2 * 2)) (sym (add-mul (n / c) u 2)) ∙ mul-div-mul-right (n / c + u) (u * 2) (pow-pos 1) in
     let mid : (n + c * u) / c ≡ n / c + u = ap (λ (z : ℕ). (n + z) / c) (mul-comm c u) ∙ add-mul-div-right n u C in
     one ∙ sym (div-div-eq-div-mul (n + c * u) c (u * 2)) ∙ ap (λ (z : ℕ). z / (u * 2)) mid ∙ sym two
 
@@ -88,7 +84,7 @@ unfoldable pub worth : Rounded → ℕ
 worth x = x .sig * 2 ^ (x .exp)
 
 module _ (p num den : ℕ) (P : 0 < p) (D : 0 < den) where
-  normal-places : Enough p num den → Normal p num den (places p num den)
+  pub normal-places : Enough p num den → Normal p num den (places p num den)
   normal-places h =
       let w = num / den in
       let z = size w in
@@ -120,8 +116,11 @@ module _ (p num den : ℕ) (P : 0 < p) (D : 0 < den) where
   pub near-in : (k : ℕ) → Normal p num den k → (2 ^ (p - 1) ≤ near num (den * 2 ^ k)) × (near num (den * 2 ^ k) ≤ 2 ^ p)
   near-in k h =
       let u = den * 2 ^ k in
-      let U : 0 < u = mul-pos D (pow-pos k) in
-      (near-ge num u U (2 ^ (p - 1)) (le-trans (le-of-eq (mul-comm (2 ^ (p - 1)) u)) (h .low)), near-le num u U (2 ^ p) (lt-of-lt-of-le (h .high) (le-of-eq (mul-comm u (2 ^ p)))))
+      let U : 0 < u = mul-pos D (pow-pos k) in (
+        near-ge num u U (2 ^ (p - 1)) (le-trans (le-of-eq (mul-comm (2 ^ (p - 1)) u)) (h .low)),
+        near-le num u U (2 ^ p)
+            (lt-of-lt-of-le (h .high) (le-of-eq (mul-comm u (2 ^ p)))),
+      )
 
 half-power : (p : ℕ) → 0 < p → 2 ^ (p - 1) < 2 ^ p
 half-power p P = let q = double-power p P in let pp = pow-pos (p - 1) in omega arith
@@ -130,7 +129,7 @@ half-power p P = let q = double-power p P in let pp = pow-pos (p - 1) in omega a
 
 -- the carry by its test
 abbrev pub by : Bool → ℕ → ℕ → ℕ → Rounded
-by t p r k = cond t (record { sig = r; exp = k }) (record { sig = 2 ^ (p - 1); exp = k + 1 })
+by t p r k = pick t (record { sig = r; exp = k }) (record { sig = 2 ^ (p - 1); exp = k + 1 })
 
 pub carried-in : (p r k : ℕ) → 0 < p → 2 ^ (p - 1) ≤ r → (2 ^ (p - 1) ≤ carried p r k .sig) × (carried p r k .sig < 2 ^ p)
 carried-in p r k P lo = go (ltb r (2 ^ p)) (ltb→lt r (2 ^ p))
@@ -158,7 +157,8 @@ module _ (p num den : ℕ) (P : 0 < p) (D : 0 < den) (E : Enough p num den) wher
   rounded-in =
       let k = places p num den in
       let N = normal-places p num den P D E in
-      subst (λ (x : Rounded). (2 ^ (p - 1) ≤ x .sig) × (x .sig < 2 ^ p)) (sym (rounded-at p num den P D k N)) (carried-in p (near num (den * 2 ^ k)) k P (near-in p num den P D k N .0))
+      subst (λ (x : Rounded). (2 ^ (p - 1) ≤ x .sig) × (x .sig < 2 ^ p)) (sym (rounded-at p num den P D k N))
+      (carried-in p (near num (den * 2 ^ k)) k P (near-in p num den P D k N .0))
 
   pub rounded-worth : worth (rounded p num den) ≡ near num (den * 2 ^ places p num den) * 2 ^ places p num den
   rounded-worth =
@@ -177,38 +177,8 @@ module _ (p num den : ℕ) (P : 0 < p) (D : 0 < den) (E : Enough p num den) wher
   rounded-under =
       let k = places p num den in
       let u = den * 2 ^ k in
-      lt-of-lt-of-le (near-under num u (mul-pos D (pow-pos k))) (le-of-eq (ap (λ (z : ℕ). z + u) (sym (ap (λ (z : ℕ). z * den * 2) rounded-worth ∙ simp (mul-assoc, mul-comm, mul-left-comm)))))
-
--- ---- a larger fraction rounds to no smaller number
-fewer : (x y p : ℕ) → x ≤ y → x - p ≤ y - p
-fewer x y p h = omega arith
-
-size-mono : (m n : ℕ) → m ≤ n → size m ≤ size n
-size-mono m n h = size-le m (size n) (lt-of-le-of-lt h (size-lt n))
-
-module _ (p a b c d : ℕ) (P : 0 < p) (B : 0 < b) (D : 0 < d) (E : Enough p a b) (F : Enough p c d) (h : a * d ≤ c * b) where
-  places-mono : places p a b ≤ places p c d
-  places-mono = fewer (size (a / b)) (size (c / d)) p (size-mono (a / b) (c / d) (div-mono a b c d B D h))
-
-  pub rounded-mono : worth (rounded p a b) ≤ worth (rounded p c d)
-  rounded-mono =
-      le-trans (le-of-eq (rounded-worth p a b P B E)) (le-trans (go (eq-or-lt-of-le places-mono)) (le-of-eq (sym (rounded-worth p c d P D F))))
-    where
-      go : (places p a b ≡ places p c d) ⊎ (places p a b < places p c d) → near a (b * 2 ^ places p a b) * 2 ^ places p a b ≤ near c (d * 2 ^ places p c d) * 2 ^ places p c d
-      go (inl e) =
-          let k = places p c d in
-          subst (λ (j : ℕ). near a (b * 2 ^ j) * 2 ^ j ≤ near c (d * 2 ^ k) * 2 ^ k) (sym e)
-          (mul-le-mul-right (2 ^ k) (near-mono a (b * 2 ^ k) c (d * 2 ^ k) (mul-pos B (pow-pos k)) (mul-pos D (pow-pos k))
-          (le-trans (le-of-eq (sym (mul-assoc a d (2 ^ k)))) (le-trans (mul-le-mul-right (2 ^ k) h) (le-of-eq (mul-assoc c b (2 ^ k)))))))
-      go (inr l) =
-          let j = places p a b in
-          let k = places p c d in
-          let room : p + j ≤ p - 1 + k = omega arith in
-          le-trans (mul-le-mul-right (2 ^ j) (near-in p a b P B j (normal-places p a b P B E) .1))
-          (le-trans (le-of-eq (pow-two p j (p + j) refl))
-          (le-trans (pow-mono room)
-          (le-trans (le-of-eq (sym (pow-two (p - 1) k (p - 1 + k) refl)))
-          (mul-le-mul-right (2 ^ k) (near-in p c d P D k (normal-places p c d P D F) .0)))))
+      lt-of-lt-of-le (near-under num u (mul-pos D (pow-pos k)))
+      (le-of-eq (ap (λ (z : ℕ). z + u) (sym (ap (λ (z : ℕ). z * den * 2) rounded-worth ∙ simp (mul-assoc, mul-comm, mul-left-comm)))))
 
 -- ---- equal fractions round alike
 pub rounded-same : (p a b c d : ℕ) → 0 < b → 0 < d → a * d ≡ c * b → rounded p a b ≡ rounded p c d
@@ -259,41 +229,32 @@ module _ (p num den : ℕ) (D : 0 < den) where
       let one : rounded p num den .exp ≡ 1 = ap (λ (x : Rounded). x .exp) (rounded-up h none) in
       omega arith
 
--- ---- Where the whole part X of a fraction has more than p digits, it alone decides, and may be moved up to any length.
-module _ (p : ℕ) (P : 0 < p) (n d X z K : ℕ) (D : 0 < d) (ex : X ≡ n / d) (long : 2 ^ p ≤ X) (N : Normal p (X * 2 ^ z) 1 K) where
-  pub room : z < K
-  room =
-      let a : 2 ^ p * 2 ^ z < 2 ^ p * 2 ^ K = lt-of-le-of-lt (mul-le-mul-right (2 ^ z) long) (lt-of-lt-of-le (N .high) (le-of-eq (ap (λ (y : ℕ). y * 2 ^ p) (one-mul (2 ^ K)) ∙ mul-comm (2 ^ K) (2 ^ p)))) in
-      lt-of-not-le (λ (g : K ≤ z). not-le-of-lt a (mul-le-mul-left (2 ^ p) (pow-mono g)))
+-- ---- Only the whole part counts where it has more than p digits: what is below it makes or unmakes no half.
+module _ (p n d x k : ℕ) (D : 0 < d) (whole : x ≡ n / d) (long : 2 ^ p ≤ x) (N : Normal p x 1 k) where
+  some : 0 < k
+  some =
+      let a : 2 ^ p * 2 ^ 0 < 2 ^ p * 2 ^ k =
+      lt-of-le-of-lt (le-trans (le-of-eq (mul-one (2 ^ p))) long)
+      (lt-of-lt-of-le (N .high) (le-of-eq (ap (λ (y : ℕ). y * 2 ^ p) (one-mul (2 ^ k)) ∙ mul-comm (2 ^ k) (2 ^ p)))) in
+      lt-of-not-le (λ (g : k ≤ 0). not-le-of-lt a (mul-le-mul-left (2 ^ p) (pow-mono g)))
 
-  split : (q : ℕ) → 1 * 2 ^ K * q ≡ 2 ^ (K - z) * q * 2 ^ z
-  split q =
-      let k = K - z in
-      let h = room in
-      let e : k + z ≡ K = omega arith in
-      ap (λ (y : ℕ). y * q) (one-mul (2 ^ K) ∙ sym (pow-two k z K e)) ∙ mul-right-comm (2 ^ k) (2 ^ z) q
+  scaled : (q : ℕ) → d * 2 ^ k * q ≡ 1 * 2 ^ k * q * d
+  scaled q = mul-assoc d (2 ^ k) q ∙ mul-comm d (2 ^ k * q) ∙ ap (λ (z : ℕ). z * q * d) (sym (one-mul (2 ^ k)))
 
-  pub floor-normal : Normal p n d (K - z)
+  pub floor-normal : Normal p n d k
   floor-normal =
-      let k = K - z in
-      let low : 2 ^ k * 2 ^ (p - 1) ≤ n / d = le-trans (le-of-mul-le-mul-right (le-trans (le-of-eq (sym (split (2 ^ (p - 1))))) (N .low)) (pow-pos z)) (le-of-eq ex) in
-      let high : n / d < 2 ^ k * 2 ^ p = lt-of-le-of-lt (le-of-eq (sym ex)) (lt-of-mul-lt-mul-right (2 ^ z) (lt-of-lt-of-le (N .high) (le-of-eq (split (2 ^ p))))) in
       record {
-        low = le-trans (le-of-eq (mul-assoc d (2 ^ k) (2 ^ (p - 1)) ∙ mul-comm d (2 ^ k * 2 ^ (p - 1)))) (le-div-iff-mul-le D .0 low);
-        high = lt-of-lt-of-le (div-lt-iff-lt-mul D .0 high) (le-of-eq (sym (mul-assoc d (2 ^ k) (2 ^ p) ∙ mul-comm d (2 ^ k * 2 ^ p))));
+        low = le-trans (le-of-eq (scaled (2 ^ (p - 1)))) (le-div-iff-mul-le D .0 (le-trans (N .low) (le-of-eq whole)));
+        high = lt-of-lt-of-le (div-lt-iff-lt-mul D .0 (lt-of-le-of-lt (le-of-eq (sym whole)) (N .high))) (le-of-eq (sym (scaled (2 ^ p))));
       }
 
-  pub floor-near : near (X * 2 ^ z) (1 * 2 ^ K) ≡ near n (d * 2 ^ (K - z))
+  pub floor-near : near x (1 * 2 ^ k) ≡ near n (d * 2 ^ k)
   floor-near =
-      let k = K - z in
-      let h = room in
-      let e : k + z ≡ K = omega arith in
-      let s : suc (k - 1) ≡ k = omega arith in
-      let u : 2 ^ (k - 1) * 2 ≡ 2 ^ k = sym (pow-suc 2 (k - 1)) ∙ ap (λ (y : ℕ). 2 ^ y) s in
-      let same : X * 2 ^ z * 2 ^ k ≡ X * (1 * 2 ^ K) = mul-assoc X (2 ^ z) (2 ^ k) ∙ ap (λ (y : ℕ). X * y) (mul-comm (2 ^ z) (2 ^ k) ∙ pow-two k z K e ∙ sym (one-mul (2 ^ K))) in
-      near-same (X * 2 ^ z) (1 * 2 ^ K) X (2 ^ k) (mul-pos (lit< tt) (pow-pos K)) (pow-pos k) same
-      ∙ ap (λ (y : ℕ). near y (2 ^ k)) ex
-      ∙ sym (ap (λ (y : ℕ). near n (d * y)) (sym u) ∙ near-floor n d (2 ^ (k - 1)) D (pow-pos (k - 1)) ∙ ap (λ (y : ℕ). near (n / d) y) u)
+      let h = some in
+      let u = double-power k some in
+      ap (near x) (one-mul (2 ^ k))
+      ∙ ap (λ (y : ℕ). near y (2 ^ k)) whole
+      ∙ sym (ap (λ (y : ℕ). near n (d * y)) (sym u) ∙ near-floor n d (2 ^ (k - 1)) D (pow-pos (k - 1)) ∙ ap (near (n / d)) u)
 
 -- ---- a significand of p digits is the nearest to itself
 module _ (p m : ℕ) (lo : 2 ^ (p - 1) ≤ m) (hi : m < 2 ^ p) where
@@ -313,7 +274,8 @@ module _ (p m : ℕ) (lo : 2 ^ (p - 1) ≤ m) (hi : m < 2 ^ p) where
   itself-carried e = simp (lt-ltb m (2 ^ p) hi)
 
 -- ---- the exponent with the digits after the first below it: the carry adds one to the exponent by itself
-pub carry-added : (p e m : ℕ) → 0 < p → 2 ^ (p - 1) ≤ m → m ≤ 2 ^ p → e * 2 ^ (p - 1) + (m - 2 ^ (p - 1)) ≡ carried p m e .exp * 2 ^ (p - 1) + (carried p m e .sig - 2 ^ (p - 1))
+pub carry-added : (p e m : ℕ) → 0 < p → 2 ^ (p - 1) ≤ m → m ≤ 2 ^ p
+    → e * 2 ^ (p - 1) + (m - 2 ^ (p - 1)) ≡ carried p m e .exp * 2 ^ (p - 1) + (carried p m e .sig - 2 ^ (p - 1))
 carry-added p e m P lo hi = go (ltb m (2 ^ p)) (nltb→le m (2 ^ p))
   where
     q : ℕ
@@ -327,6 +289,12 @@ carry-added p e m P lo hi = go (ltb m (2 ^ p)) (nltb→le m (2 ^ p))
         let t : 2 ^ p ≤ m = h tt in
         omega arith
 
--- ---- 64 digits are 24 and 40
-pub normal-64 : (y : ℕ) → 9223372036854775808 ≤ y → y < 18446744073709551616 → Normal 24 y 1 40
-normal-64 y lo hi = record { low = lo; high = hi }
+-- ---- of n digits the first p stand before the point
+pub normal-digits : (p n y : ℕ) → 0 < p → p ≤ n → 2 ^ (n - 1) ≤ y → y < 2 ^ n → Normal p y 1 (n - p)
+normal-digits p n y P l lo hi =
+    let e : n - p + (p - 1) ≡ n - 1 = omega arith in
+    let g : n - p + p ≡ n = omega arith in
+    record {
+      low = le-trans (le-of-eq (ap (λ (z : ℕ). z * 2 ^ (p - 1)) (one-mul (2 ^ (n - p))) ∙ pow-two (n - p) (p - 1) (n - 1) e)) lo;
+      high = lt-of-lt-of-le hi (le-of-eq (sym (ap (λ (z : ℕ). z * 2 ^ p) (one-mul (2 ^ (n - p))) ∙ pow-two (n - p) p n g)));
+    }

@@ -1,6 +1,6 @@
 -- What a reading shows of a word. Assumes nothing.
 use mathlib.Core.Path.{_≡_, refl, sym, ap, _∙_, subst}
-use mathlib.Core.Bool.{Bool, true, false, cond}
+use mathlib.Core.Bool.{Bool, true, false}
 use Prim.Native.Nat.{ℕ, zero, suc, _+_, _-_, _%_, _^_, _≤_, _<_}
 use native.Mathlib.Omega.{arith}
 use lib.Dec.{eqb}
@@ -11,21 +11,25 @@ use mir.Syntax.{w32}
 use mir.Val.{Fits, SFits, toZ, ofZ}
 use mir.ValLaws.{toZ-pos, ofZ-toZ}
 use borrow.Author.Tests.{eq-eqb, ne-eqb}
+use Rattle.numbers.specs.Choice.{pick}
+use Rattle.numbers.specs.Signed.{signed, low32}
+use Rattle.numbers.proofs.Longwords.{low32-signed}
 use Rattle.floating.specs.declared.Reading.the-variants.{Number, Longword, Reserved}
-use Rattle.floating.specs.Format.{F, signOf, exponentOf, fractionOf, isReserved}
+use Rattle.floating.specs.Format.{Format, signOf, exponentOf, fractionOf, isReserved}
 use Rattle.floating.specs.Reading.{Shows, doubleBits, longwordReading}
-use Rattle.floating.specs.Steps.{Reads}
+use Rattle.floating.specs.Working.{Reads}
+use Rattle.floating.proofs.Signed.{signed-is}
 use Rattle.floating.proofs.Products.{size-none, size-some}
 
--- ---- F_floating
+-- ---- a format's word
 -- no exponent: reserved with the sign, and zero without it
-by-sign : (w e s : ℕ) → e ≡ exponentOf F w → e ≡ 0 → s ≡ signOf F w → eqb s 1 ≡ isReserved F w
-by-sign w e s he z hs = ap (λ (y : ℕ). eqb y 1) hs ∙ sym (simp (eq-eqb (exponentOf F w) 0 (sym he ∙ z)))
+by-sign : (f : Format) (w e s : ℕ) → e ≡ exponentOf f w → e ≡ 0 → s ≡ signOf f w → eqb s 1 ≡ isReserved f w
+by-sign f w e s he z hs = ap (λ (y : ℕ). eqb y 1) hs ∙ sym (simp (eq-eqb (exponentOf f w) 0 (sym he ∙ z)))
 
-module _ (w : ℕ) where
-  pub shows-reserved : (e s c : ℕ) → e ≡ exponentOf F w → e ≡ 0 → s ≡ signOf F w → s ≡ 1 → c ≡ w % 16 → Shows F w (Reserved c)
+module _ (f : Format) (w : ℕ) where
+  pub shows-reserved : (e s c : ℕ) → e ≡ exponentOf f w → e ≡ 0 → s ≡ signOf f w → s ≡ 1 → c ≡ w % 16 → Shows f w (Reserved c)
   shows-reserved e s c he z hs y hc =
-      let r : isReserved F w ≡ true = sym (by-sign w e s he z hs) ∙ eq-eqb s 1 y in
+      let r : isReserved f w ≡ true = sym (by-sign f w e s he z hs) ∙ eq-eqb s 1 y in
       record { kind = sym (simp r); bits = hc ∙ sym (simp r); value = tt }
 
   zero-bits : toBits binary64 (ofBits binary64 0) ≡ 0
@@ -36,29 +40,31 @@ module _ (w : ℕ) where
   unfolding ofBits
   zero-value s d h = (sym h, omega arith)
 
-  by-tests : (p q : Bool) (a b : ℕ) → p ≡ false → q ≡ true → cond p a (cond q 0 b) ≡ 0
+  by-tests : (p q : Bool) (a b : ℕ) → p ≡ false → q ≡ true → pick p a (pick q 0 b) ≡ 0
   by-tests p q a b h k = simp (h, k)
 
-  pub shows-zero : (e s : ℕ) → e ≡ exponentOf F w → e ≡ 0 → s ≡ signOf F w → (s ≡ 1 → ⊥) → Shows F w (Number (ofBits binary64 0))
+  pub shows-zero : (e s : ℕ) → e ≡ exponentOf f w → e ≡ 0 → s ≡ signOf f w → (s ≡ 1 → ⊥) → Shows f w (Number (ofBits binary64 0))
   shows-zero e s he z hs n =
       let p : eqb s 1 ≡ false = ne-eqb s 1 n in
-      let r : isReserved F w ≡ false = sym (by-sign w e s he z hs) ∙ p in
-      let x : eqb (exponentOf F w) 0 ≡ true = eq-eqb (exponentOf F w) 0 (sym he ∙ z) in
-      let q : eqb (signOf F w) 1 ≡ false = ap (λ (y : ℕ). eqb y 1) (sym hs) ∙ p in
+      let r : isReserved f w ≡ false = sym (by-sign f w e s he z hs) ∙ p in
+      let x : eqb (exponentOf f w) 0 ≡ true = eq-eqb (exponentOf f w) 0 (sym he ∙ z) in
+      let q : eqb (signOf f w) 1 ≡ false = ap (λ (y : ℕ). eqb y 1) (sym hs) ∙ p in
       record {
         kind = sym (simp r);
-        bits = zero-bits ∙ sym (by-tests (isReserved F w) (eqb (exponentOf F w) 0) (w % 16) (doubleBits F (signOf F w) (exponentOf F w) (fractionOf F w)) r x);
-        value = subst (λ (k : ℕ). HasValue (ofBits binary64 0) (eqb (signOf F w) 1) k (2 ^ 152)) (sym (size-none F w (sym he ∙ z))) (zero-value (eqb (signOf F w) 1) (2 ^ 152) q);
+        bits = zero-bits ∙ sym (by-tests (isReserved f w) (eqb (exponentOf f w) 0) (w % 16) (doubleBits f (signOf f w) (exponentOf f w) (fractionOf f w)) r x);
+        value =
+            subst (λ (k : ℕ). HasValue (ofBits binary64 0) (eqb (signOf f w) 1) k (2 ^ (f .bits + f .excess))) (sym (size-none f w (sym he ∙ z)))
+            (zero-value (eqb (signOf f w) 1) (2 ^ (f .bits + f .excess)) q);
       }
 
-  pub shows-number : (x : Float) (e : ℕ) → e ≡ exponentOf F w → (e ≡ 0 → ⊥) → Reads F w x → Shows F w (Number x)
+  pub shows-number : (x : Float) (e : ℕ) → e ≡ exponentOf f w → (e ≡ 0 → ⊥) → Reads f w x → Shows f w (Number x)
   shows-number x e he ne R =
-      let z : (exponentOf F w ≡ 0 → ⊥) = λ y. ne (he ∙ y) in
-      let y : eqb (exponentOf F w) 0 ≡ false = ne-eqb (exponentOf F w) 0 z in
+      let z : (exponentOf f w ≡ 0 → ⊥) = λ y. ne (he ∙ y) in
+      let y : eqb (exponentOf f w) 0 ≡ false = ne-eqb (exponentOf f w) 0 z in
       record {
         kind = sym (simp y);
         bits = R .bits ∙ sym (simp y);
-        value = subst (λ (k : ℕ). HasValue x (eqb (signOf F w) 1) k (2 ^ 152)) (sym (size-some F w z)) (R .value);
+        value = subst (λ (k : ℕ). HasValue x (eqb (signOf f w) 1) k (2 ^ (f .bits + f .excess))) (sym (size-some f w z)) (R .value);
       }
 
 -- ---- a longword
@@ -78,7 +84,8 @@ module _ (l : ℕ) (lo : 2147483648 ≤ l) (hi : l < 4294967296) where
       let e : 4294967296 - suc (4294967295 - l) ≡ l = omega arith in
       ap (λ (z : ℤ). toZ w32 (ofZ w32 z)) below-zero ∙ ap (toZ w32) e
 
-pub shows-longword : (w : ℕ) (r : ℤ) → Fits w32 w → r ≡ toZ w32 w → (Longword (toZ w32 (ofZ w32 r)) ≡ longwordReading w) × (ofZ w32 (toZ w32 (ofZ w32 r)) ≡ w)
+pub shows-longword : (w : ℕ) (r : ℤ) → Fits w32 w → r ≡ toZ w32 w → (Longword (toZ w32 (ofZ w32 r)) ≡ longwordReading w) × (low32 (toZ w32 (ofZ w32 r)) ≡ w)
 shows-longword w r f h =
-    let e : ofZ w32 r ≡ w = ap (ofZ w32) h ∙ ofZ-toZ w32 w f in
-    (ap (λ (z : ℕ). Longword (toZ w32 z)) e, ap (λ (z : ℕ). ofZ w32 (toZ w32 z)) e ∙ ofZ-toZ w32 w f)
+    let l : w < 2 ^ 32 = f .fits in
+    let e : toZ w32 (ofZ w32 r) ≡ signed w = ap (toZ w32) (ap (ofZ w32) h ∙ ofZ-toZ w32 w f) ∙ signed-is w l in
+    (ap Longword e, ap low32 e ∙ low32-signed w l)

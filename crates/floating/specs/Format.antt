@@ -1,7 +1,8 @@
 -- Document 01, "What an element receives", the item on F_floating: a format's numbers, and where its fields lie in a word. Definitions only.
 use Prim.Native.Nat.{ℕ, zero, suc, _+_, _-_, _*_, _/_, _%_, _^_}
-use mathlib.Core.Bool.{Bool, false, cond, _||_}
+use mathlib.Core.Bool.{Bool, false}
 use lib.Dec.{eqb}
+use Rattle.numbers.specs.Choice.{pick}
 
 pub record Format : Type 0 where
   -- significant bits, the first of which is not in the word
@@ -43,12 +44,8 @@ wordOf f s e x = s * 32768 + e * 2 ^ (f .lowest) + x / 65536 ^ (f .further) + up
 
 -- exponent 0 with sign 0, for every fraction
 abbrev pub isZero : Format → ℕ → Bool
-isZero f w = cond (eqb (exponentOf f w) 0) (eqb (signOf f w) 0) false
+isZero f w = pick (eqb (exponentOf f w) 0) (eqb (signOf f w) 0) false
 
 -- exponent 0 with sign 1, for every fraction
 abbrev pub isReserved : Format → ℕ → Bool
-isReserved f w = cond (eqb (exponentOf f w) 0) (eqb (signOf f w) 1) false
-
--- one of two words is zero or reserved: its exponent is 0
-abbrev pub isRare : Format → ℕ → ℕ → Bool
-isRare f a b = eqb (exponentOf f a) 0 || eqb (exponentOf f b) 0
+isReserved f w = pick (eqb (exponentOf f w) 0) (eqb (signOf f w) 1) false

@@ -1,12 +1,12 @@
--- Document 01, "Saved state and readings": "A reading is a binary64 number, a longword or a reserved operand with its code (bits <3:0>). An F_floating reading equals its binary64 number exactly; zero is positive". Definitions only.
+-- Document 01, "Saved state and readings": "A reading is a binary64 number, a longword or a reserved operand with its code (bits <3:0>). An
+-- F_floating reading equals its binary64 number exactly; zero is positive". Definitions only.
 use Prim.Native.Nat.{ℕ, _+_, _-_, _*_, _%_, _^_}
 use mathlib.Core.Path.{_≡_}
-use mathlib.Core.Bool.{cond}
 use lib.Dec.{eqb}
 use lib.Ieee.{binary64, toBits}
 use lib.Ieee.Exact.{HasValue}
-use mir.Syntax.{w32}
-use mir.Val.{toZ, ofZ}
+use Rattle.numbers.specs.Choice.{pick}
+use Rattle.numbers.specs.Signed.{signed, low32}
 use Rattle.floating.specs.Format.{Format, signOf, exponentOf, fractionOf, isReserved}
 use Rattle.floating.specs.Exact.{Exact, valueOf}
 use Rattle.floating.specs.declared.Reading.{Reading}
@@ -21,7 +21,7 @@ kindOf (Reserved c) = 2
 -- its 64 bits: those of the binary64 number, the longword's 32, or the code
 abbrev pub bitsOf : Reading → ℕ
 bitsOf (Number x) = toBits binary64 x
-bitsOf (Longword i) = ofZ w32 i
+bitsOf (Longword i) = low32 i
 bitsOf (Reserved c) = c
 
 -- a binary64 number is exactly v
@@ -36,16 +36,16 @@ doubleBits f s e x = s * 2 ^ 63 + (e + 1022 - f .excess) * 2 ^ 52 + x * 2 ^ (53 
 
 abbrev pub shownBits : Format → ℕ → ℕ
 shownBits f w =
-    cond (isReserved f w) (w % 16)
-    (cond (eqb (exponentOf f w) 0) 0
+    pick (isReserved f w) (w % 16)
+    (pick (eqb (exponentOf f w) 0) 0
     (doubleBits f (signOf f w) (exponentOf f w) (fractionOf f w)))
 
 -- what is shown of a word of the format
 pub record Shows (f : Format) (w : ℕ) (r : Reading) : Type 0 where
-  pub kind : kindOf r ≡ cond (isReserved f w) 2 0
+  pub kind : kindOf r ≡ pick (isReserved f w) 2 0
   pub bits : bitsOf r ≡ shownBits f w
   pub value : IsValue r (valueOf f w)
 
 -- what is shown of 32 bits as a longword
 abbrev pub longwordReading : ℕ → Reading
-longwordReading l = Longword (toZ w32 l)
+longwordReading l = Longword (signed l)

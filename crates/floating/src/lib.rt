@@ -1,6 +1,7 @@
 // F_floating (document 01, "What an element receives"; document 02, Q-1 and Q-2): each function equals a definition of `specs/` for every input.
 mod convert;
 mod deliver;
+mod format;
 mod order;
 mod product;
 mod quotient;
@@ -10,13 +11,15 @@ mod sum;
 mod word;
 
 ghost use mathlib.Core.Path.{_≡_};
-ghost use mathlib.Core.Bool.{Bool, true, false, cond};
-ghost use Rattle.floating.specs.Format.{F, isRare};
+ghost use mathlib.Core.Bool.{Bool, true, false};
+ghost use Rattle.numbers.specs.Choice.{pick};
+ghost use Rattle.floating.specs.Format.{F};
+ghost use Rattle.floating.specs.Working.{isSpecial};
 ghost use Rattle.floating.specs.Reading.{Shows, longwordReading, kindOf, bitsOf};
 ghost use Rattle.floating.specs.Operations.{answered, sum, difference, product, quotient, compared, roundedLongword, truncatedLongword, fromLongword};
 
 // What an operation gives, before EXC is looked at: the promises speak of it, and the calls hand out the answer to it.
-pub enum Outcome {
+pub enum Delivery {
     Word(u32),
     Overflow,
     Underflow,
@@ -26,7 +29,7 @@ pub enum Outcome {
 }
 
 // The 32 bits that an element receives, and the type bits that VAER records.
-pub struct Answer {
+pub struct Flagged {
     pub value: u32,
     pub types: u32,
 }
@@ -46,71 +49,71 @@ pub enum Reading {
 
 // Whether one of two words is zero or reserved. The sum or the difference of such words has a function of its own, so that it and that of all others are small
 // enough for the compiler to put both into several loops.
-pub fn is_rare(a: u32, b: u32) -> bool
-    ensures { λ r. ⌜ r ≡ isRare F a b ⌝ }
+pub fn is_special(a: u32, b: u32) -> bool
+    ensures { λ r. ⌜ r ≡ isSpecial F a b ⌝ }
 {
     (word::exponent_of(a) == 0) | (word::exponent_of(b) == 0)
 }
 
 // a minus b, or a plus b, where one of them is zero or reserved
-pub fn rare_total(minus: bool, a: u32, b: u32) -> Answer
-    requires { ⌜ isRare F a b ≡ true ⌝ }
-    ensures { λ r. ⌜ ((exc : Bool) → r ≡ answered exc (cond minus (difference F a b) (sum F a b))) ⌝ }
+pub fn special_sum_or_difference(minus: bool, a: u32, b: u32) -> Flagged
+    requires { ⌜ isSpecial F a b ≡ true ⌝ }
+    ensures { λ r. ⌜ ((exc : Bool) → r ≡ answered exc (pick minus (difference F a b) (sum F a b))) ⌝ }
 {
-    sum::add_rare(a, sum::sign_added(minus, b), b)
+    sum::add_special(a, sum::sign_added(minus, b), b)
 }
 
 // a minus b, or a plus b, where neither is
-pub fn common_total(minus: bool, a: u32, b: u32, exc: bool) -> Answer
-    requires { ⌜ isRare F a b ≡ false ⌝ }
-    ensures { λ r. ⌜ r ≡ answered exc (cond minus (difference F a b) (sum F a b)) ⌝ }
+pub fn common_sum_or_difference(minus: bool, a: u32, b: u32, exc: bool) -> Flagged
+    requires { ⌜ isSpecial F a b ≡ false ⌝ }
+    ensures { λ r. ⌜ r ≡ answered exc (pick minus (difference F a b) (sum F a b)) ⌝ }
 {
     sum::add_common(exc, a, sum::sign_added(minus, b), b)
 }
 
 // a minus b, or a plus b
-fn total(minus: bool, a: u32, b: u32, exc: bool) -> Answer
-    ensures { λ r. ⌜ r ≡ answered exc (cond minus (difference F a b) (sum F a b)) ⌝ }
+fn sum_or_difference(minus: bool, a: u32, b: u32, exc: bool) -> Flagged
+    ensures { λ r. ⌜ r ≡ answered exc (pick minus (difference F a b) (sum F a b)) ⌝ }
 {
-    if is_rare(a, b) {
-        return rare_total(minus, a, b);
+    if is_special(a, b) {
+        return special_sum_or_difference(minus, a, b);
     }
-    common_total(minus, a, b, exc)
+    common_sum_or_difference(minus, a, b, exc)
 }
 
 // a plus b
-pub fn add(a: u32, b: u32, exc: bool) -> Answer
+pub fn add(a: u32, b: u32, exc: bool) -> Flagged
     ensures { λ r. ⌜ r ≡ answered exc (sum F a b) ⌝ }
 {
-    total(false, a, b, exc)
+    sum_or_difference(false, a, b, exc)
 }
 
 // a minus b
-pub fn subtract(a: u32, b: u32, exc: bool) -> Answer
+pub fn subtract(a: u32, b: u32, exc: bool) -> Flagged
     ensures { λ r. ⌜ r ≡ answered exc (difference F a b) ⌝ }
 {
-    total(true, a, b, exc)
+    sum_or_difference(true, a, b, exc)
 }
 
 // From here on an answer is handed on by its parts, which the compiler then keeps apart.
 
 // a times b
-pub fn multiply(a: u32, b: u32, exc: bool) -> Answer
+pub fn multiply(a: u32, b: u32, exc: bool) -> Flagged
     ensures { λ r. ⌜ r ≡ answered exc (product F a b) ⌝ }
 {
     let r = product::of_words(exc, a, b);
-    Answer {
+    Flagged {
         value: r.value,
         types: r.types,
     }
 }
 
 // a divided by b
-pub fn divide(a: u32, b: u32, exc: bool) -> Answer
+pub fn divide(a: u32, b: u32, exc: bool) -> Flagged
     ensures { λ r. ⌜ r ≡ answered exc (quotient F a b) ⌝ }
 {
     let r = quotient::of_words(exc, a, b);
-    Answer {
+    Flagged {
         value: r.value,
         types: r.types,
     }
@@ -128,32 +131,32 @@ pub fn compare(relation: u32, a: u32, b: u32) -> Compared
 }
 
 // Conversion 5, F to longword rounded.
-pub fn rounded_longword(word: u32, exc: bool) -> Answer
+pub fn rounded_longword(word: u32, exc: bool) -> Flagged
     ensures { λ r. ⌜ r ≡ roundedLongword F exc word ⌝ }
 {
     let r = convert::to_longword(word, 1, exc);
-    Answer {
+    Flagged {
         value: r.value,
         types: r.types,
     }
 }
 
 // Conversion 4, F to longword truncated.
-pub fn truncated_longword(word: u32, exc: bool) -> Answer
+pub fn truncated_longword(word: u32, exc: bool) -> Flagged
     ensures { λ r. ⌜ r ≡ truncatedLongword F exc word ⌝ }
 {
     let r = convert::to_longword(word, 0, exc);
-    Answer {
+    Flagged {
         value: r.value,
         types: r.types,
     }
 }
 
 // Conversion 1, longword to F. There is always a word, and nothing is recorded.
-pub fn from_longword(longword: u32) -> Answer
-    ensures { λ r. ⌜ (fromLongword F longword ≡ Outcome.Word (r .value)) × (r .types ≡ 0) ⌝ }
+pub fn from_longword(longword: u32) -> Flagged
+    ensures { λ r. ⌜ (fromLongword F longword ≡ Delivery.Word (r .value)) × (r .types ≡ 0) ⌝ }
 {
-    Answer {
+    Flagged {
         value: convert::from_longword(longword),
         types: 0,
     }

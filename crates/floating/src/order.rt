@@ -1,20 +1,22 @@
 // How two words lie to each other.
 use crate::Compared;
+use crate::format;
 use crate::word;
 ghost use mathlib.Core.Path.{_≡_};
-ghost use mathlib.Core.Bool.{false};
-ghost use Prim.Native.Nat.{_<_};
+ghost use mathlib.Core.Bool.{false, not, Bool·beq};
+ghost use Prim.Native.Nat.{_/_, _%_};
+ghost use lib.Dec.{eqb};
 ghost use Rattle.floating.specs.Format.{F, isReserved};
 ghost use Rattle.floating.specs.Exact.{valueOf, minus};
-ghost use Rattle.floating.specs.Operations.{side, holds, compared};
-ghost use Rattle.floating.specs.Steps.{level};
+ghost use Rattle.floating.specs.Operations.{compared};
+ghost use Rattle.floating.specs.Working.{level, side};
 
-// The word turned, and 0 for zero, which has no exponent.
+// The sign, the exponent and the fraction in a row, and 0 for zero, which has no exponent.
 fn level_of(word: u32) -> u32
-    ensures { λ r. ⌜ r ≡ level word ⌝ }
+    ensures { λ r. ⌜ r ≡ level F word ⌝ }
 {
-    let t = word::turned(word);
-    word::chosen(t < 8388608, 0, t)
+    let t = word::swapped(word);
+    word::chosen(t < format::F_FIRST, 0, t)
 }
 
 // 0 where a is greater, 1 where they are equal, 2 where a is less. Levels rise with the numbers, but fall where one is negative.
@@ -25,12 +27,16 @@ fn side_of(a: u32, b: u32) -> u32
     let x = level_of(a);
     let y = level_of(b);
     let rising = word::chosen(x < y, 2, 0) + word::chosen(x == y, 1, 0);
-    word::chosen((2147483647 < x) | (2147483647 < y), 2 - rising, rising)
+    word::chosen(
+        (format::F_MAGNITUDES <= x) | (format::F_MAGNITUDES <= y),
+        2 - rising,
+        rising,
+    )
 }
 
+// The relation holds between two numbers that lie so to each other: bits <1:0> name how, and bit <2> asks for the opposite.
 fn holds_of(relation: u32, side: u32) -> bool
-    requires { ⌜ relation < 8 ⌝ }
-    ensures { λ r. ⌜ r ≡ holds relation side ⌝ }
+    ensures { λ r. ⌜ r ≡ not (Bool·beq (eqb side (relation % 4)) (eqb (relation / 4 % 2) 1)) ⌝ }
 {
     (side == relation % 4) != (relation / 4 % 2 == 1)
 }
@@ -51,7 +57,7 @@ pub fn compare_words(relation: u32, a: u32, b: u32) -> Compared
         };
     }
     Compared {
-        bit: holds_of(relation % 8, side_of(a, b)),
+        bit: holds_of(relation, side_of(a, b)),
         types: 0,
     }
 }

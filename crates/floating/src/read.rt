@@ -1,8 +1,9 @@
 // The readings of a word.
 use crate::Reading;
+use crate::format;
 use crate::word;
 ghost use mathlib.Core.Path.{_≡_};
-ghost use Prim.Native.Nat.{_%_, _^_, _<_};
+ghost use Prim.Native.Nat.{_+_, _%_, _^_, _<_, _≤_};
 ghost use lib.Dec.{eqb};
 ghost use lib.Ieee.{binary64, toBits};
 ghost use lib.Ieee.Exact.{HasValue};
@@ -10,23 +11,23 @@ ghost use mir.Syntax.{w32};
 ghost use mir.Val.{toZ, ofZ};
 ghost use Rattle.floating.specs.Format.{F, exponentOf};
 ghost use Rattle.floating.specs.Reading.{Shows, bitsOf};
-ghost use Rattle.floating.specs.Steps.{Reads};
+ghost use Rattle.floating.specs.Working.{Reads};
 
-// 2 ^ (e - 152), with the sign s.
+// 2 ^ e units, with the sign s.
 fn scale_of(s: u32, e: u32) -> f64
-    requires { ⌜ (s < 2) × (e < 256) ⌝ }
-    ensures { λ r. ⌜ HasValue r (eqb s 1) (2 ^ e) (2 ^ 152) ⌝ }
+    requires { ⌜ (s < 2) × (e ≤ F .largest) ⌝ }
+    ensures { λ r. ⌜ HasValue r (eqb s 1) (2 ^ e) (2 ^ (F .bits + F .excess)) ⌝ }
 {
-    f64::from_bits(word::wide(s * 2048 + e + 871) * 4503599627370496)
+    f64::from_bits(word::wide(s * 2048 + e + format::F_DOUBLE) * 4503599627370496)
 }
 
-// The whole number of 24 bits, times a power of two with the sign: each operation is exact.
+// The significand as a whole number, times a power of two with the sign: each operation is exact.
 fn number_of(word: u32) -> f64
     requires { ⌜ 0 < exponentOf F word ⌝ }
     ensures { λ r. ⌜ Reads F word r ⌝ }
 {
     let e = word::exponent_of(word);
-    let m = 8388608 + word::fraction_of(word);
+    let m = format::F_FIRST + word::fraction_of(word);
     m as f64 * scale_of(word::sign_of(word), e)
 }
 

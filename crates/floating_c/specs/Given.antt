@@ -1,11 +1,12 @@
 -- What a call from C gets: an answer as one number, and the products of two runs of words. Definitions only.
 use Prim.Native.Nat.{ℕ, _+_, _*_, _≤_, _<_}
 use mathlib.Core.Path.{_≡_}
-use mathlib.Core.Bool.{Bool, false, not, cond}
+use mathlib.Core.Bool.{Bool, false, not}
 use mathlib.Core.List.{List}
 use lib.Dec.{eqb, ltb}
 use lib.ListN.{length, getD}
-use Rattle.floating.specs.declared.Answer.{Answer}
+use Rattle.numbers.specs.Choice.{pick}
+use Rattle.floating.specs.declared.Flagged.{Flagged}
 use Rattle.floating.specs.declared.Compared.{Compared}
 use Rattle.floating.specs.Format.{F}
 use Rattle.floating.specs.Operations.{answered, product}
@@ -15,15 +16,15 @@ abbrev pub isSet : ℕ → Bool
 isSet exc = not (eqb exc 0)
 
 -- the value in the low 32 bits, the type bits above
-unfoldable pub joined : Answer → ℕ
+unfoldable pub joined : Flagged → ℕ
 joined r = r .value + r .types * 0x1_0000_0000
 
 -- the mask bit in bit 0, the type bits from bit 32 on
 unfoldable pub joinedBit : Compared → ℕ
-joinedBit r = cond (r .bit) 1 0 + r .types * 0x1_0000_0000
+joinedBit r = pick (r .bit) 1 0 + r .types * 0x1_0000_0000
 
 abbrev pub shorter : ℕ → ℕ → ℕ
-shorter x y = cond (ltb x y) x y
+shorter x y = pick (ltb x y) x y
 
 abbrev pub shortest : List ℕ → List ℕ → List ℕ → ℕ
 shortest a b c = shorter (shorter (length a) (length b)) (length c)

@@ -1,8 +1,8 @@
 // The floating operations for C, on plain numbers. A result has the value in its low 32 bits and the type bits above. EXC is set where exc is not 0.
 ghost use mathlib.Core.Path.{_≡_};
-ghost use mathlib.Core.Bool.{cond};
 ghost use Prim.Native.Nat.{_≤_};
-ghost use Rattle.floating.specs.declared.Outcome.the-variants.{Word};
+ghost use Rattle.numbers.specs.Choice.{pick};
+ghost use Rattle.floating.specs.declared.Delivery.the-variants.{Word};
 ghost use Rattle.floating.specs.Format.{F, isReserved};
 ghost use Rattle.floating.specs.Reading.{shownBits};
 ghost use Rattle.floating.specs.Operations.{answered, sum, difference, product, quotient, compared, roundedLongword, truncatedLongword, fromLongword};
@@ -14,14 +14,14 @@ fn wide(x: u32) -> u64
     x as u64
 }
 
-fn join(r: floating::Answer) -> u64
+fn join(r: floating::Flagged) -> u64
     ensures { λ x. ⌜ x ≡ joined r ⌝ }
 {
     wide(r.value) + wide(r.types) * 4294967296
 }
 
 fn bit_number(bit: bool) -> u64
-    ensures { λ r. ⌜ (r ≡ cond bit 1 0) × (r ≤ 1) ⌝ }
+    ensures { λ r. ⌜ (r ≡ pick bit 1 0) × (r ≤ 1) ⌝ }
 {
     if bit { 1 } else { 0 }
 }
@@ -94,7 +94,7 @@ pub extern "C" fn kuj_f_from_longword(longword: u32) -> u64
 // The kind of a word's F_floating reading.
 #[no_mangle]
 pub extern "C" fn kuj_f_reading_kind(word: u32) -> u64
-    ensures { λ r. ⌜ r ≡ cond (isReserved F word) 2 0 ⌝ }
+    ensures { λ r. ⌜ r ≡ pick (isReserved F word) 2 0 ⌝ }
 {
     floating::kind_of(floating::read_floating(word))
 }

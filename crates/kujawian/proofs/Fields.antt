@@ -10,7 +10,9 @@ use Rattle.numbers.specs.Choice.{pick}
 use Rattle.numbers.specs.Halves.{low}
 use Rattle.numbers.proofs.Tests.{and-right, pick-true, pick-false}
 use Rattle.state.specs.declared.Control.{Control}
-use Rattle.state.specs.Answer.{Answer, done, outOfRange, noSuchField}
+use Rattle.state.specs.declared.answer.Answer.{Answer}
+use Rattle.state.specs.declared.answer.Answer.the-variants.{Done, OutOfRange, NoSuchField}
+use Rattle.state.specs.Answer.{numbers, isDone}
 use Rattle.state.specs.State.{state, inRange}
 use Rattle.state.specs.Elements.{at}
 use Rattle.floating.specs.declared.Reading.{Reading}
@@ -34,46 +36,48 @@ numbers-of (suc zero) word x h s =
     record { kind-is = ap kindOf (l .0); bits-are = l .1 }
 numbers-of (suc (suc n)) word x h s = absurd (omega arith)
 
--- the tests behind an answer
-done-tests : (i f : Bool) → done 0 ≡ pick i (pick f (done 0) noSuchField) outOfRange → (i && f) ≡ true
-done-tests true true e = refl
-done-tests true false e = let z : _≡_ {A = ℕ} 0 13 = ap (λ (a : Answer). a .number) e in absurd (omega arith)
-done-tests false f e = let z : _≡_ {A = ℕ} 0 12 = ap (λ (a : Answer). a .number) e in absurd (omega arith)
-
-refused-tests : (i f : Bool) (a : Answer) → (a .number ≡ 0 → ⊥) → a ≡ pick i (pick f (done 0) noSuchField) outOfRange → (i && f) ≡ false
-refused-tests true true a n e = absurd (n (ap (λ (a : Answer). a .number) e))
-refused-tests true false a n e = refl
-refused-tests false f a n e = refl
+-- the tests behind an answer: done where both hold
+tests-done : (i f : Bool) → isDone (pick i (pick f (Done 0) NoSuchField) OutOfRange) ≡ (i && f)
+tests-done true true = refl
+tests-done true false = refl
+tests-done false f = refl
 
 module _ (elements : List ℕ) (l : List ℕ) (c : Control) (taken : c ≡ controlOf l) (register element kind : ℕ) (p : Panel) (given : Answered (state elements c) register element kind p) where
-  -- of a reading that is shown
-  module _ (x : Reading) (is : p ≡ panel.Shown x) where
-    tests : (inRange c && isField register element kind) ≡ true
-    unfolding fieldAnswer
-    tests = done-tests (inRange c) (isField register element kind) (ap panelAnswer (sym is) ∙ given .answer)
+  -- what the tests said
+  passed : (inRange c && isField register element kind) ≡ isDone (panelAnswer p)
+  unfolding fieldAnswer
+  passed = sym (ap isDone (given .answer) ∙ tests-done (inRange c) (isField register element kind))
 
-    shown : Numbers kind (low (at elements register element)) x
-    shown =
-        let field = and-right (inRange c) (isField register element kind) tests in
-        let k = and-right (ltb register 16) _ field in
-        numbers-of kind (low (at elements register element)) x (ltb-true kind 2 (and-right (ltb element 64) (ltb kind 2) k)) (subst (Holds kind (low (at elements register element))) is (given .reading))
+  -- `n` is the number and what stands beside it, as `answers::give` gives them
+  module _ (n : ℕ × ℕ) (kind₀ bits₀ : ℕ) where
+    -- of a reading that is shown
+    module _ (x : Reading) (is : p ≡ panel.Shown x) where
+      tests : (inRange c && isField register element kind) ≡ true
+      tests = passed ∙ ap (λ (q : Panel). isDone (panelAnswer q)) is
 
-    pub field-shown : (k b kind₀ bits₀ : ℕ) → k ≡ kindOf x → b ≡ bitsOf x → (done 0, k, b) ≡ fieldRead (state elements (controlOf l)) register element kind kind₀ bits₀
+      shown : Numbers kind (low (at elements register element)) x
+      shown =
+          let field = and-right (inRange c) (isField register element kind) tests in
+          let k = and-right (ltb register 16) _ field in
+          numbers-of kind (low (at elements register element)) x (ltb-true kind 2 (and-right (ltb element 64) (ltb kind 2) k))
+          (subst (Holds kind (low (at elements register element))) is (given .reading))
+
+      pub field-shown : n ≡ numbers (Done 0) → (k b : ℕ) → k ≡ kindOf x → b ≡ bitsOf x
+          → (n, k, b) ≡ fieldRead (state elements (controlOf l)) register element kind kind₀ bits₀
+      unfolding fieldRead
+      field-shown e k b ek eb =
+          ap (λ (m : ℕ × ℕ). (m, k, b)) e
+          ∙ ap (λ (m : ℕ). (numbers (Done 0), m, b)) (ek ∙ shown .kind-is)
+          ∙ ap (λ (m : ℕ). (numbers (Done 0), kindShown kind (low (at elements register element)), m)) (eb ∙ shown .bits-are)
+          ∙ sym (pick-true (inRange c && isField register element kind) _ _ tests)
+          ∙ ap (λ (k : Control). fieldRead (state elements k) register element kind kind₀ bits₀) taken
+
+    -- of a refused one
+    pub field-refused : (a : Answer) → p ≡ panel.Refused a → n ≡ numbers a
+        → (n, kind₀, bits₀) ≡ fieldRead (state elements (controlOf l)) register element kind kind₀ bits₀
     unfolding fieldRead
-    field-shown k b kind₀ bits₀ ek eb =
-        ap (λ (n : ℕ). (done 0, n, b)) (ek ∙ shown .kind-is)
-        ∙ ap (λ (n : ℕ). (done 0, kindShown kind (low (at elements register element)), n)) (eb ∙ shown .bits-are)
-        ∙ sym (pick-true (inRange c && isField register element kind) _ (fieldAnswer c register element kind, kind₀, bits₀) tests)
+    field-refused a is e =
+        ap (λ (m : ℕ × ℕ). (m, kind₀, bits₀)) (e ∙ ap numbers (ap panelAnswer (sym is) ∙ given .answer))
+        ∙ sym (pick-false (inRange c && isField register element kind) _ _
+        (passed ∙ ap (λ (q : Panel). isDone (panelAnswer q)) is ∙ subst (Holds kind (low (at elements register element))) is (given .reading)))
         ∙ ap (λ (k : Control). fieldRead (state elements k) register element kind kind₀ bits₀) taken
-
-  -- of a refused one
-  pub field-refused : (q : Panel) (kind₀ bits₀ : ℕ) → p ≡ q → (panelAnswer q .number ≡ 0 → ⊥) → (panelAnswer q, kind₀, bits₀) ≡ fieldRead (state elements (controlOf l)) register element kind kind₀ bits₀
-  unfolding fieldRead fieldAnswer
-  field-refused q kind₀ bits₀ is n =
-      let e : panelAnswer q ≡ fieldAnswer c register element kind = ap panelAnswer (sym is) ∙ given .answer in
-      ap (λ (a : Answer). (a, kind₀, bits₀)) e
-      ∙ sym (pick-false (inRange c && isField register element kind) _ (fieldAnswer c register element kind, kind₀, bits₀) (failed e))
-      ∙ ap (λ (k : Control). fieldRead (state elements k) register element kind kind₀ bits₀) taken
-    where
-      failed : panelAnswer q ≡ fieldAnswer c register element kind → (inRange c && isField register element kind) ≡ false
-      failed e = refused-tests (inRange c) (isField register element kind) (panelAnswer q) n e

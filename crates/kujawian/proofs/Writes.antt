@@ -1,15 +1,15 @@
 -- A control write on the record that C lends: one walk of its MIR for all five. The call is
 --     fn kuj_write_x(control: &mut Control, value: uW, beside: &mut u64) -> u32 {
 --         let after = control::write_x(*control, value);
---         if control::is_done(after.answer) { *control = after.control; }
---         answers::of_write(after.answer, beside)
+--         if answer::is_done(after.answer) { *control = after.control; }
+--         answers::give(after.answer, beside)
 --     }
 -- It is over `w`, the width of the value; `written`, the definition that `control::write_x` meets; `keeps`, that by it a refusal leaves the
 -- record as it was; `Ensures`, what the call promises, which must follow; and `g`, the key by which the MIR calls `control::write_x`.
 -- It names no field of the record. A function's own proof hands over its names, and antt compares its MIR with `function` here.
 --     walk     the borrow of the record is opened, the record is copied out and passed on by value, and the answer is tested
 --     chosen   the branch: the record that came back is stored, or nothing is
---     leaves   what follows, once for both arms: that borrow is closed, and `beside` goes to `answers::of_write` for good
+--     leaves   what follows, once for both arms: that borrow is closed, and `beside` goes to `answers::give` for good
 -- Assumes nothing.
 use mathlib.Core.Bool.{Bool, not}
 use mathlib.Core.Path.{_≡_, refl, ap, subst, _∙_}
@@ -55,20 +55,20 @@ use denote.Triple.Spec.{Meets, tripleOf, exits as ends}
 use denote.Triple.Walked.{Stays, stay-ref, stay-none, gave-ref, walkOf, goes-none, goes-ref, goes-gave-ref, Walks, ends-at, walked, walk-meets}
 use denote.Exit.{yes}
 use Rattle.state.specs.declared.Control.{Control}
-use Rattle.state.specs.Answer.{Answer, answer}
-use Rattle.control.specs.declared.Write.{Write}
-use Rattle.control.specs.declared.Written.{Written}
-use Rattle.control.specs.Moves.{Outcome, outcome, outcomeOf, writeAnswer, isDone}
+use Rattle.state.specs.declared.answer.Answer.{Answer}
+use Rattle.state.specs.declared.answer.Ended.{Ended as Written}
+use Rattle.state.specs.Answer.{numbers, isDone}
+use Rattle.state.specs.Outcome.{Outcome, outcome, given}
 use Rattle.state.proofs.Control as T
 use Rattle.state.proofs.Control.Laws as T′
-use Rattle.control.proofs.Write as N
-use Rattle.control.proofs.Write.Laws as N′
-use Rattle.control.proofs.Written as R
-use Rattle.control.proofs.Written.Laws as R′
-use Rattle.control.proofs.is_done as is-done
-use Rattle.control.proofs.is_done.Symbol.{name as #is-done}
-use Rattle.kujawian.proofs.answers.of_write as of-write
-use Rattle.kujawian.proofs.answers.of_write.Symbol.{name as #of-write}
+use Rattle.state.proofs.answer.Answer as N
+use Rattle.state.proofs.answer.Answer.Laws as N′
+use Rattle.state.proofs.answer.Ended as R
+use Rattle.state.proofs.answer.Ended.Laws as R′
+use Rattle.state.proofs.answer.is_done as is-done
+use Rattle.state.proofs.answer.is_done.Symbol.{name as #is-done}
+use Rattle.kujawian.proofs.answers.give as give
+use Rattle.kujawian.proofs.answers.give.Symbol.{name as #give}
 
 -- the types of `control`, of `beside` and of `beside` lent on
 abbrev record-ref : Ty
@@ -86,7 +86,7 @@ store = cond (copy (place 6 [])) (assign (place 1 (deref T′.mir ∷ [])) (rvOp
 
 abbrev rest : Code
 rest = seq (assign (place 7 []) (addrOf (place 3 (deref (tyInt w64) ∷ []))))
-    (seq (call #of-write (copy (place 4 (field 0 ∷ [])) ∷ copy (place 7 []) ∷ []) (place 0 [])) return)
+    (seq (call #give (copy (place 4 (field 0 ∷ [])) ∷ copy (place 7 []) ∷ []) (place 0 [])) return)
 
 abbrev pub function : Width → Name → Fn
 function w g = record {
@@ -151,25 +151,25 @@ module _ {M : Type 1} (𝓤 : URA M) (H : Heap 𝓤) (A : Atoms 𝓤) (at-mem : 
   abbrev pub IsDone : Contract 𝓤
   IsDone = tripleOf 𝓤 H A is-done.signature (is-done.spec 𝓤 H A at-mem run)
 
-  abbrev pub OfWrite : Contract 𝓤
-  OfWrite = tripleOf 𝓤 H A of-write.signature (of-write.spec 𝓤 H A at-mem run)
+  abbrev pub Give : Contract 𝓤
+  Give = tripleOf 𝓤 H A give.signature (give.spec 𝓤 H A at-mem run)
 
-module _ (w : Width) (written : Control → ℕ → Outcome) where
+module _ (w : Width) (written : Control → ℕ → Outcome Control) where
   -- what `control::write_x` promises
   abbrev by-value-clauses : {M : Type 1} (𝓤 : URA M) → Clauses 𝓤 (by-value w)
   by-value-clauses 𝓤 κs a = record {
     ghost = Unit {0};
     requires = λ _. emp 𝓤;
-    ensures = λ _ r end. fact 𝓤 (outcomeOf r ≡ written (a .0) (a .1 .0));
+    ensures = λ _ r end. fact 𝓤 (outcome (r .answer) (r .control) ≡ written (a .0) (a .1 .0));
   }
 
   abbrev pub ByValue : {M : Type 1} (𝓤 : URA M) (H : Heap 𝓤) (A : Atoms 𝓤) → Contract 𝓤
   ByValue 𝓤 H A = tripleOf 𝓤 H A (by-value w .signature) (closing 𝓤 H A (by-value w) (by-value-clauses 𝓤))
 
   -- what the call promises, and that it follows where the number, what stands beside it and the record at exit are as the definition says
-  module _ (keeps : (c : Control) (n : ℕ) (r : Written) → outcomeOf r ≡ written c n → Holds (not (isDone (r .answer))) → c ≡ r .control)
+  module _ (keeps : (c : Control) (n : ℕ) (r : Written) → outcome (r .answer) (r .control) ≡ written c n → Holds (not (isDone (r .answer))) → c ≡ r .control)
       {M : Type 1} (𝓤 : URA M) (Ensures : Lfts 2 → Args → ℕ → Args → SProp 𝓤)
-      (follows : (κs : Lfts 2) (x : RefT Control) (n : ℕ) (y : RefT ℕ) (number beside : ℕ) (c : Control) → outcome (answer number beside) c ≡ written (x .now) n
+      (follows : (κs : Lfts 2) (x : RefT Control) (n : ℕ) (y : RefT ℕ) (number beside : ℕ) (c : Control) → ((number, beside), c) ≡ given (written (x .now) n)
       → ent 𝓤 (emp 𝓤) (Ensures κs (x, (n, (y, tt))) number (at-last x c, (n, (at-last y beside, tt))))) where
     abbrev clauses : Clauses 𝓤 (in-place w)
     clauses κs a = record { ghost = Unit {0}; requires = λ _. emp 𝓤; ensures = λ _ r end. Ensures κs a r end }
@@ -205,19 +205,19 @@ module _ (w : Width) (written : Control → ℕ → Outcome) where
           qed W (‵ (T.the-row .own h (vals h)) ∷ []) ∵ nothing ! $ owned ! (UInt w) (Is (UInt w)) (uint-makes 𝓤 H A W w) n _ (refl, n-fits) $ fjoin ! $
           move ! (1 ∷ 0 ∷ []) $ fjoin ! $ nothing ! $ join ! $ frame ! $ done !
 
-      abbrev to-test : Write → Val → IsDone 𝓤 H A at-mem run .Ghost
+      abbrev to-test : Answer → Val → IsDone 𝓤 H A at-mem run .Ghost
       to-test a v = ((tt, tt, tt, (a, tt), (v ∷ [], tt)), tt)
 
-      goes-test : (a : Write) (v : Val) → Is N.the-row a (v ∷ []) → ent 𝓤 (emp 𝓤) (IsDone 𝓤 H A at-mem run .pre (to-test a v))
+      goes-test : (a : Answer) (v : Val) → Is N.the-row a (v ∷ []) → ent 𝓤 (emp 𝓤) (IsDone 𝓤 H A at-mem run .pre (to-test a v))
       goes-test a v is =
           qed W [] ∵ nothing ! $ nothing ! $ owned ! N.the-row (Is N.the-row) (EL.makes N.the-type N′.the-plain 𝓤 H A) a _ is $ fjoin ! $
           nothing ! $ join ! $ frame ! $ done !
 
-      abbrev to-answer : Write → Val → OfWrite 𝓤 H A at-mem run .Ghost
+      abbrev to-answer : Answer → Val → Give 𝓤 H A at-mem run .Ghost
       to-answer a v = (((μ, tt), (p, tt), tt, (a, (y, tt)), (v ∷ [], (vptr d u ∷ [], tt))), tt)
 
-      goes-answer : (a : Write) (v : Val) → Is N.the-row a (v ∷ [])
-          → ent 𝓤 (sep 𝓤 (mean 𝓤 H A token) (mean 𝓤 H A lent)) (OfWrite 𝓤 H A at-mem run .pre (to-answer a v))
+      goes-answer : (a : Answer) (v : Val) → Is N.the-row a (v ∷ [])
+          → ent 𝓤 (sep 𝓤 (mean 𝓤 H A token) (mean 𝓤 H A lent)) (Give 𝓤 H A at-mem run .pre (to-answer a v))
       goes-answer a v is =
           qed W (token ∷ lent ∷ []) ∵ nothing ! $ move ! (2 ∷ 0 ∷ []) $ fjoin ! $
           owned ! N.the-row (Is N.the-row) (EL.makes N.the-type N′.the-plain 𝓤 H A) a _ is $ fjoin ! $ move ! (1 ∷ 0 ∷ []) $ join ! $
@@ -228,7 +228,7 @@ module _ (w : Width) (written : Control → ℕ → Outcome) where
       Left c k z v = ‵ (fobs γ (T.the-row .coded .code c)) ∷ ‵ (fbor κ (Body (mem T.the-row) b o γ)) ∷ ‵ (flft κ q) ∷ token
           ∷ ‵ (fres δ (u64 .coded .code z)) ∷ ‵ (u32 .own k (v ∷ [])) ∷ []
 
-      exits : (c : Control) (k z : ℕ) (v : Val) → outcome (answer k z) c ≡ written h n → ent 𝓤 (⋆ 𝓤 H A (Left c k z v)) (Post v)
+      exits : (c : Control) (k z : ℕ) (v : Val) → ((k, z), c) ≡ given (written h n) → ent 𝓤 (⋆ 𝓤 H A (Left c k z v)) (Post v)
       exits c k z v e =
           qed W (Left c k z v) ∵ suffices ! _ (ends-at 𝓤 H A (in-place w) (stayed w) clauses W bound v k (c, (tt, (z, tt))) (tt, (tt, (tt, tt)))) $
           suffices ! _ (also 𝓤 _ (follows (κ, (μ, tt)) x n y k z c e)) $ move ! (2 ∷ 3 ∷ []) $ join ! $ frame ! $ nothing ! $ move ! (3 ∷ 0 ∷ []) $ fjoin ! $
@@ -236,7 +236,7 @@ module _ (w : Width) (written : Control → ℕ → Outcome) where
           feqI ! (List Val) (vptr b o ∷ []) (vptr b o ∷ []) refl $ fjoin3 ! $ fjoin ! $ done !
 
       module _ (C : Calls 𝓤 H) (Λ : Loops 𝓤 H) (fm : FmC 𝓤 H (W .laws) C) (g : Name) (known : Triple 𝓤 (C g) (ByValue 𝓤 H A))
-          (tests : Triple 𝓤 (C #is-done) (IsDone 𝓤 H A at-mem run)) (answers : Triple 𝓤 (C #of-write) (OfWrite 𝓤 H A at-mem run)) where
+          (tests : Triple 𝓤 (C #is-done) (IsDone 𝓤 H A at-mem run)) (answers : Triple 𝓤 (C #give) (Give 𝓤 H A at-mem run)) where
         module _ (l₀ l₁ l₂ l₃ l₄ l₅ l₆ l₇ : ℕ) where
           abbrev E : Env 𝓤 H
           E = (tyInt w32, l₀) ∷ (record-ref, l₁) ∷ (tyInt w, l₂) ∷ (beside-ref, l₃) ∷ (R′.mir, l₄) ∷ (T′.mir, l₅) ∷ (tyBool, l₆) ∷ (again-ref, l₇) ∷ []
@@ -254,25 +254,25 @@ module _ (w : Width) (written : Control → ℕ → Outcome) where
 
           -- what follows the branch, with the record c where it stands
           leaves : (r : Written) (vs : List Val) → Is R.the-row r vs → (c : Control) (t : Bool)
-              → outcome (writeAnswer (r .answer)) c ≡ written h n → Is T.the-row c (vals c) → Sq W (After r c t) (runs C Λ E rest (atRet E Post))
+              → outcome (r .answer) c ≡ written h n → Is T.the-row c (vals c) → Sq W (After r c t) (runs C Λ E rest (atRet E Post))
           leaves r vs is c t e c-is =
               -- the borrow is closed
               owned ! T.the-row (Is T.the-row) (LL.makes T.the-type T′.the-plain 𝓤 H A) c _ c-is $ move ! (1 ∷ 0 ∷ []) $ closes ! tt T.the-row c (vals c) b o $
               -- [obs; the borrow; its token; `beside`'s token; what it owns; true; _7; …; _6; …; _5; …; _4; …; _3; …; _2; …; _1; …; room for _0; …]
               assigns ! (addr ! (from ! (hop ! (look ! 14 refl) (stop !)))) (from ! (stop !)) (init ! 6 refl (tt, tt)) $
-              move ! (3 ∷ 4 ∷ []) $ use2 W (raw (OfWrite 𝓤 H A at-mem run .pre (to-answer (r .answer) _)))
+              move ! (3 ∷ 4 ∷ []) $ use2 W (raw (Give 𝓤 H A at-mem run .pre (to-answer (r .answer) _)))
               (goes-answer (r .answer) _ (LL.owed R.the-type R′.the-laws r _ is .0)) $
-              -- [what `of_write` asks; obs; the borrow; its token; true; _7; …; _6; …; _5; …; _4; …; _3; …; _2; …; _1; …; room for _0; …]
-              calls-at ! fm (OfWrite 𝓤 H A at-mem run) answers (to-answer (r .answer) _)
+              -- [what `give` asks; obs; the borrow; its token; true; _7; …; _6; …; _5; …; _4; …; _3; …; _2; …; _1; …; room for _0; …]
+              calls-at ! fm (Give 𝓤 H A at-mem run) answers (to-answer (r .answer) _)
               (and-then ! (load ! (from ! (fld ! refl (stop !))) (look-in ! 11 (sub ! 0 refl (whole !))))
               (and-then ! (load ! (from ! (stop !)) (look ! 5 refl)) (no-more !))) (λ v.
               use1 W (later (some (λ (k : ℕ). (token ⊛ ‵ (u32 .own k (v ∷ [])))
-              ⊛ raw (ensured 𝓤 H A of-write.ended (of-write.clauses 𝓤 H A at-mem run) (μ, tt) (r .answer, (y, tt)) tt k)))) (id⊢ 𝓤 _) $
+              ⊛ raw (ensured 𝓤 H A give.ended (give.clauses 𝓤 H A at-mem run) (μ, tt) (r .answer, (y, tt)) tt k)))) (id⊢ 𝓤 _) $
               await ! tt $ pick ! (λ k.
               -- what it ensures, at some last number beside
-              split ! $ move ! (1 ∷ []) $ use1 W (some (λ (z : Unit {0} × (ℕ × Unit {0})). ‵ (lasts of-write.ended (μ, tt) (r .answer, (y, tt)) z)
-              ⊛ raw (fact 𝓤 (answer k (z .1 .0) ≡ writeAnswer (r .answer))))) (id⊢ 𝓤 _) $ pick ! (λ z.
-              split ! $ move ! (1 ∷ []) $ heard ! (answer k (z .1 .0) ≡ writeAnswer (r .answer)) (λ a.
+              split ! $ move ! (1 ∷ []) $ use1 W (some (λ (z : Unit {0} × (ℕ × Unit {0})). ‵ (lasts give.ended (μ, tt) (r .answer, (y, tt)) z)
+              ⊛ raw (fact 𝓤 ((k, z .1 .0) ≡ numbers (r .answer))))) (id⊢ 𝓤 _) $ pick ! (λ z.
+              split ! $ move ! (1 ∷ []) $ heard ! ((k, z .1 .0) ≡ numbers (r .answer)) (λ a.
               fsplit ! $ drop ! $ fsplit ! $ move ! (2 ∷ []) $ split ! $ move ! (1 ∷ []) $
               -- [the number; `beside`'s token; its last number; true; obs; the borrow; its token; true; _7; …; _6; …; … _1; …; room for _0; …]
               peeks ! u32 (Is u32) (shows 𝓤 H A u32) k (v ∷ []) (λ k-is.
@@ -281,10 +281,11 @@ module _ (w : Width) (written : Control → ℕ → Outcome) where
               forget ! 20 refl $ forget ! 22 refl $ move ! (22 ∷ 23 ∷ []) $ free1 ! $ move ! (20 ∷ 21 ∷ []) $ free1 ! $ move ! (18 ∷ 19 ∷ []) $ free1 ! $
               move ! (16 ∷ 17 ∷ []) $ free1 ! $ move ! (14 ∷ 15 ∷ []) $ free1 ! $ move ! (12 ∷ 13 ∷ []) $ free1 ! $ move ! (10 ∷ 11 ∷ []) $ free1 ! $
               move ! (8 ∷ 9 ∷ []) $ free1 ! $ free0 ! $
-              keep ! (4 ∷ 5 ∷ 6 ∷ 1 ∷ 2 ∷ 0 ∷ []) $ by ! (exits c k (z .1 .0) v (ap (λ (x : Answer). outcome x c) a ∙ e)))))))
+              keep ! (4 ∷ 5 ∷ 6 ∷ 1 ∷ 2 ∷ 0 ∷ []) $ by ! (exits c k (z .1 .0) v (ap (λ (x : ℕ × ℕ). (x, c)) a ∙ ap given e)))))))
 
           -- the branch: the record that came back is stored; or the write was refused, and the one that stands there is the one that came back
-          chosen : (r : Written) (vs : List Val) → Is R.the-row r vs → outcomeOf r ≡ written h n → Is T.the-row h (vals h) → (t : Bool) → t ≡ isDone (r .answer)
+          chosen : (r : Written) (vs : List Val) → Is R.the-row r vs → outcome (r .answer) (r .control) ≡ written h n
+              → Is T.the-row h (vals h) → (t : Bool) → t ≡ isDone (r .answer)
               → Sq W (After r h t) (runs C Λ E (seq store rest) (atRet E Post))
           chosen r vs is e was t tested =
               first ! $ branches ! (load ! (from ! (stop !)) (look ! 9 refl))
@@ -293,7 +294,7 @@ module _ (w : Width) (written : Control → ℕ → Outcome) where
               (store-raw ! 0 refl (LL.lawful T.the-type T′.the-laws 𝓤 H A W .typed (r .control) _ (LL.owed R.the-type R′.the-laws r _ is .1 .0) .0)) $
               exec ! C Λ E rest (atRet E Post) $ leaves r vs is (r .control) t e (LL.owed R.the-type R′.the-laws r _ is .1 .0))
               (λ refused. skips ! $ exec ! C Λ E rest (atRet E Post) $
-              leaves r vs is h t (ap (outcome (writeAnswer (r .answer))) (keeps h n r e (subst (λ (s : Bool). Holds (not s)) tested refused)) ∙ e) was)
+              leaves r vs is h t (ap (outcome (r .answer)) (keeps h n r e (subst (λ (s : Bool). Holds (not s)) tested refused)) ∙ e) was)
 
         walk : ent 𝓤 (onEntry 𝓤 H A (in-place w .signature) (κ, (μ, tt)) (q, (p, tt)) (bound .0 .3) (bound .0 .4))
             (WpFn 𝓤 H C Λ (function w g) (vptr b o ∷ vint w n ∷ vptr d u ∷ []) Post)
@@ -316,13 +317,13 @@ module _ (w : Width) (written : Control → ℕ → Outcome) where
             (and-then ! (load ! (from ! (stop !)) (look ! 12 refl)) (and-then ! (load ! (from ! (stop !)) (look ! 18 refl)) (no-more !))) (λ v.
             use1 W (later (some (λ (r : Written). (‵ ftrue ⊛ ‵ (R.the-row .own r (v ∷ [])))
             ⊛ raw (ensured 𝓤 H A (by-value w) (by-value-clauses 𝓤) tt (h, (n, tt)) tt r)))) (id⊢ 𝓤 _) $ await ! tt $ pick ! (λ r. split ! $ move ! (1 ∷ []) $
-            use1 W (raw (fact 𝓤 (outcomeOf r ≡ written h n))) (told 𝓤 H A (by-value w) tt (h, (n, tt)) _) $
-            heard ! (outcomeOf r ≡ written h n) (λ e. split ! $ drop ! $
+            use1 W (raw (fact 𝓤 (outcome (r .answer) (r .control) ≡ written h n))) (told 𝓤 H A (by-value w) tt (h, (n, tt)) _) $
+            heard ! (outcome (r .answer) (r .control) ≡ written h n) (λ e. split ! $ drop ! $
             facts ! R.the-row (Is R.the-row) (shows 𝓤 H A R.the-row) r (v ∷ []) (λ is.
             land ! (from ! (stop !)) (init ! 13 refl (LL.lawful R.the-type R′.the-laws 𝓤 H A W .typed r _ is .0)) $
             rewrite ! 13 (λ (u : Val). ‵ (fat fullShare R′.mir l₄ 0 u)) (ap only (LL.tells R.the-type R′.the-laws r (v ∷ []) is)) refl $
             -- [the Control's cell; the open borrow; obs; auth; `beside`'s token; what it owns; true; _7; …; _6; …; … _1; …; room for _0; …]
-            -- `control::is_done`: the test t
+            -- `answer::is_done`: the test t
             use0 W (raw (IsDone 𝓤 H A at-mem run .pre (to-test (r .answer) _))) (goes-test (r .answer) _ (LL.owed R.the-type R′.the-laws r _ is .0)) $
             calls-at ! fm (IsDone 𝓤 H A at-mem run) tests (to-test (r .answer) _)
             (and-then ! (load ! (from ! (fld ! refl (stop !))) (look-in ! 14 (sub ! 0 refl (whole !)))) (no-more !)) (λ s.
@@ -337,7 +338,7 @@ module _ (w : Width) (written : Control → ℕ → Outcome) where
 
     module _ (H : Heap 𝓤) (A : Atoms 𝓤) (W : Given 𝓤 H A) (at-mem : Memory → SProp 𝓤) (run : Routine → Fun 𝓤) (𝓣 : Tables 𝓤 H) (g : Name)
         (known : Triple 𝓤 (𝓣 .C g) (ByValue 𝓤 H A))
-        (tests : Triple 𝓤 (𝓣 .C #is-done) (IsDone 𝓤 H A at-mem run)) (answers : Triple 𝓤 (𝓣 .C #of-write) (OfWrite 𝓤 H A at-mem run)) where
+        (tests : Triple 𝓤 (𝓣 .C #is-done) (IsDone 𝓤 H A at-mem run)) (answers : Triple 𝓤 (𝓣 .C #give) (Give 𝓤 H A at-mem run)) where
       walks : Walks 𝓤 H A (in-place w) (stayed w) (WpFn 𝓤 H (𝓣 .C) (𝓣 .Λ) (function w g)) clauses
       walks = walked 𝓤 H A (in-place w) (stayed w) clauses (WpFn 𝓤 H (𝓣 .C) (𝓣 .Λ) (function w g)) (λ κs. (ptr-vals, (uint-vals w, (ptr-vals, tt))))
           (λ κs. (mut-tells (named 0) (κs .0) T.the-row, (uint-tells w, (mut-tells (named 1) (κs .1 .0) u64, tt))))

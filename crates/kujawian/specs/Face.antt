@@ -8,11 +8,11 @@ use lib.ListN.{getD, set}
 use Rattle.numbers.specs.Choice.{pick}
 use Rattle.numbers.specs.Halves.{low}
 use Rattle.state.specs.declared.Control.{Control}
-use Rattle.state.specs.Answer.{Answer, done}
+use Rattle.state.specs.declared.answer.Answer.the-variants.{Done}
+use Rattle.state.specs.Answer.{numbers}
+use Rattle.state.specs.Outcome.{Outcome}
 use Rattle.state.specs.State.{State, state, inRange}
 use Rattle.state.specs.Elements.{at}
-use Rattle.execute.specs.Execute.{Outcome as Executed}
-use Rattle.queue.specs.Run.{Outcome as Ran}
 use Rattle.panel.specs.Panel.{isField, fieldAnswer, kindShown, bitsShown}
 
 -- the control record of five numbers, in the order of the saved records
@@ -27,20 +27,16 @@ abbrev pub stateOf : List ℕ → List ℕ → State
 stateOf elements control = state elements (controlOf control)
 
 -- what a call that alters the state gives back, and the elements and the five numbers after it
-unfoldable pub left : List ℕ → Answer × State → Answer × List ℕ × List ℕ
-left control o = (o .0, o .1 .elements, controlInto control (o .1 .control))
-
--- the same of a queue
-abbrev pub ran : Ran → Answer × State
-ran o = (o .answer, o .state)
+unfoldable pub left : List ℕ → Outcome State → (ℕ × ℕ) × List ℕ × List ℕ
+left control o = (numbers (o .answer), o .left .elements, controlInto control (o .left .control))
 
 -- the same of one instruction, and the window after it
-unfoldable pub executed : List ℕ → Executed → Answer × List ℕ × List ℕ × List ℕ
-executed control o = (o .answer, o .state .elements, controlInto control (o .state .control), o .window)
+unfoldable pub executed : List ℕ → Outcome (State × List ℕ) → (ℕ × ℕ) × List ℕ × List ℕ × List ℕ
+executed control o = (numbers (o .answer), o .left .0 .elements, controlInto control (o .left .0 .control), o .left .1)
 
 -- what a reading gives back, and *kind_read and *bits after it: a refused one leaves them as they were
-unfoldable pub fieldRead : State → ℕ → ℕ → ℕ → ℕ → ℕ → Answer × ℕ × ℕ
+unfoldable pub fieldRead : State → ℕ → ℕ → ℕ → ℕ → ℕ → (ℕ × ℕ) × ℕ × ℕ
 fieldRead s register element kind kindBefore bitsBefore =
     pick (inRange (s .control) && isField register element kind)
-    (done 0, kindShown kind (low (at (s .elements) register element)), bitsShown kind (low (at (s .elements) register element)))
-    (fieldAnswer (s .control) register element kind, kindBefore, bitsBefore)
+    (numbers (Done 0), kindShown kind (low (at (s .elements) register element)), bitsShown kind (low (at (s .elements) register element)))
+    (numbers (fieldAnswer (s .control) register element kind), kindBefore, bitsBefore)

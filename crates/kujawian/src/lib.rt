@@ -8,112 +8,115 @@ use panel::Panel;
 use state::Control;
 use state::Element;
 use state::Register;
+use state::answer;
+use state::answer::Answer;
 ghost use mathlib.Core.Path.{_≡_};
-ghost use Rattle.state.specs.Answer.{answer};
-ghost use Rattle.control.specs.Moves.{outcome, vlrRead, vcrRead, vmrLowRead, vmrHighRead, vaerRead, vpsrRead, vlrWritten, vcrWritten, vmrLowWritten, vmrHighWritten, vpsrWritten};
+ghost use Rattle.state.specs.Answer.{numbers};
+ghost use Rattle.state.specs.Outcome.{given};
+ghost use Rattle.control.specs.Moves.{vlrRead, vcrRead, vmrLowRead, vmrHighRead, vaerRead, vpsrRead, vlrWritten, vcrWritten, vmrLowWritten, vmrHighWritten, vpsrWritten};
 ghost use Rattle.execute.specs.Execute.{executedOf};
-ghost use Rattle.queue.specs.Reply.{queue as queueOf};
+ghost use Rattle.touch.specs.Parts.{queue as queueOf};
 ghost use Rattle.queue.specs.Run.{queueRun, walkedRun, orderedRun};
 ghost use Rattle.saved.specs.Save.{saving};
 ghost use Rattle.saved.specs.Load.{loading};
-ghost use Rattle.kujawian.specs.Face.{controlOf, stateOf, left, ran, executed, fieldRead};
+ghost use Rattle.kujawian.specs.Face.{controlOf, stateOf, left, executed, fieldRead};
 
 #[no_mangle]
 pub extern "C" fn kuj_read_vlr(control: &[u64; 5], beside: &mut u64) -> u32
-    ensures { λ r. ⌜ answer r (now (beside .exit)) ≡ vlrRead (controlOf (now (control .entry))) ⌝ }
+    ensures { λ r. ⌜ (r, now (beside .exit)) ≡ numbers (vlrRead (controlOf (now (control .entry)))) ⌝ }
 {
-    answers::of_read(control::read_vlr(record::of(control)), beside)
+    answers::give(control::read_vlr(record::of(control)), beside)
 }
 
 #[no_mangle]
 pub extern "C" fn kuj_read_vcr(control: &[u64; 5], beside: &mut u64) -> u32
-    ensures { λ r. ⌜ answer r (now (beside .exit)) ≡ vcrRead (controlOf (now (control .entry))) ⌝ }
+    ensures { λ r. ⌜ (r, now (beside .exit)) ≡ numbers (vcrRead (controlOf (now (control .entry)))) ⌝ }
 {
-    answers::of_read(control::read_vcr(record::of(control)), beside)
+    answers::give(control::read_vcr(record::of(control)), beside)
 }
 
 #[no_mangle]
 pub extern "C" fn kuj_read_vmr_low(control: &[u64; 5], beside: &mut u64) -> u32
-    ensures { λ r. ⌜ answer r (now (beside .exit)) ≡ vmrLowRead (controlOf (now (control .entry))) ⌝ }
+    ensures { λ r. ⌜ (r, now (beside .exit)) ≡ numbers (vmrLowRead (controlOf (now (control .entry)))) ⌝ }
 {
-    answers::of_read(control::read_vmr_low(record::of(control)), beside)
+    answers::give(control::read_vmr_low(record::of(control)), beside)
 }
 
 #[no_mangle]
 pub extern "C" fn kuj_read_vmr_high(control: &[u64; 5], beside: &mut u64) -> u32
-    ensures { λ r. ⌜ answer r (now (beside .exit)) ≡ vmrHighRead (controlOf (now (control .entry))) ⌝ }
+    ensures { λ r. ⌜ (r, now (beside .exit)) ≡ numbers (vmrHighRead (controlOf (now (control .entry)))) ⌝ }
 {
-    answers::of_read(control::read_vmr_high(record::of(control)), beside)
+    answers::give(control::read_vmr_high(record::of(control)), beside)
 }
 
 #[no_mangle]
 pub extern "C" fn kuj_read_vaer(control: &[u64; 5], beside: &mut u64) -> u32
-    ensures { λ r. ⌜ answer r (now (beside .exit)) ≡ vaerRead (controlOf (now (control .entry))) ⌝ }
+    ensures { λ r. ⌜ (r, now (beside .exit)) ≡ numbers (vaerRead (controlOf (now (control .entry)))) ⌝ }
 {
-    answers::of_read(control::read_vaer(record::of(control)), beside)
+    answers::give(control::read_vaer(record::of(control)), beside)
 }
 
 #[no_mangle]
 pub extern "C" fn kuj_read_vpsr(control: &[u64; 5], beside: &mut u64) -> u32
-    ensures { λ r. ⌜ answer r (now (beside .exit)) ≡ vpsrRead (controlOf (now (control .entry))) ⌝ }
+    ensures { λ r. ⌜ (r, now (beside .exit)) ≡ numbers (vpsrRead (controlOf (now (control .entry)))) ⌝ }
 {
-    answers::of_read(control::read_vpsr(record::of(control)), beside)
+    answers::give(control::read_vpsr(record::of(control)), beside)
 }
 
 // The control writes alter the record where the caller keeps it: a refusal stores nothing.
 #[no_mangle]
 pub extern "C" fn kuj_write_vlr(control: &mut Control, value: u64, beside: &mut u64) -> u32
-    ensures { λ r. ⌜ outcome (answer r (now (beside .exit))) (now (control .exit)) ≡ vlrWritten (now (control .entry)) value ⌝ }
+    ensures { λ r. ⌜ ((r, now (beside .exit)), now (control .exit)) ≡ given (vlrWritten (now (control .entry)) value) ⌝ }
 {
     let after = control::write_vlr(*control, value);
-    if control::is_done(after.answer) {
+    if answer::is_done(after.answer) {
         *control = after.control;
     }
-    answers::of_write(after.answer, beside)
+    answers::give(after.answer, beside)
 }
 
 #[no_mangle]
 pub extern "C" fn kuj_write_vcr(control: &mut Control, value: u64, beside: &mut u64) -> u32
-    ensures { λ r. ⌜ outcome (answer r (now (beside .exit))) (now (control .exit)) ≡ vcrWritten (now (control .entry)) value ⌝ }
+    ensures { λ r. ⌜ ((r, now (beside .exit)), now (control .exit)) ≡ given (vcrWritten (now (control .entry)) value) ⌝ }
 {
     let after = control::write_vcr(*control, value);
-    if control::is_done(after.answer) {
+    if answer::is_done(after.answer) {
         *control = after.control;
     }
-    answers::of_write(after.answer, beside)
+    answers::give(after.answer, beside)
 }
 
 #[no_mangle]
 pub extern "C" fn kuj_write_vmr_low(control: &mut Control, value: u32, beside: &mut u64) -> u32
-    ensures { λ r. ⌜ outcome (answer r (now (beside .exit))) (now (control .exit)) ≡ vmrLowWritten (now (control .entry)) value ⌝ }
+    ensures { λ r. ⌜ ((r, now (beside .exit)), now (control .exit)) ≡ given (vmrLowWritten (now (control .entry)) value) ⌝ }
 {
     let after = control::write_vmr_low(*control, value);
-    if control::is_done(after.answer) {
+    if answer::is_done(after.answer) {
         *control = after.control;
     }
-    answers::of_write(after.answer, beside)
+    answers::give(after.answer, beside)
 }
 
 #[no_mangle]
 pub extern "C" fn kuj_write_vmr_high(control: &mut Control, value: u32, beside: &mut u64) -> u32
-    ensures { λ r. ⌜ outcome (answer r (now (beside .exit))) (now (control .exit)) ≡ vmrHighWritten (now (control .entry)) value ⌝ }
+    ensures { λ r. ⌜ ((r, now (beside .exit)), now (control .exit)) ≡ given (vmrHighWritten (now (control .entry)) value) ⌝ }
 {
     let after = control::write_vmr_high(*control, value);
-    if control::is_done(after.answer) {
+    if answer::is_done(after.answer) {
         *control = after.control;
     }
-    answers::of_write(after.answer, beside)
+    answers::give(after.answer, beside)
 }
 
 #[no_mangle]
 pub extern "C" fn kuj_write_vpsr(control: &mut Control, value: u32, beside: &mut u64) -> u32
-    ensures { λ r. ⌜ outcome (answer r (now (beside .exit))) (now (control .exit)) ≡ vpsrWritten (now (control .entry)) value ⌝ }
+    ensures { λ r. ⌜ ((r, now (beside .exit)), now (control .exit)) ≡ given (vpsrWritten (now (control .entry)) value) ⌝ }
 {
     let after = control::write_vpsr(*control, value);
-    if control::is_done(after.answer) {
+    if answer::is_done(after.answer) {
         *control = after.control;
     }
-    answers::of_write(after.answer, beside)
+    answers::give(after.answer, beside)
 }
 
 // Executes one instruction.
@@ -130,7 +133,7 @@ pub extern "C" fn kuj_execute(
     origin: u64,
     beside: &mut u64,
 ) -> u32
-    ensures { λ r. ⌜ (answer r (now (beside .exit)), now (elements .exit), now (control .exit), now (window .exit)) ≡ executed (now (control .entry)) (executedOf (stateOf (now (elements .entry)) (now (control .entry))) opcode cntrl scalar base stride (now (window .entry)) origin) ⌝ }
+    ensures { λ r. ⌜ ((r, now (beside .exit)), now (elements .exit), now (control .exit), now (window .exit)) ≡ executed (now (control .entry)) (executedOf (stateOf (now (elements .entry)) (now (control .entry))) opcode cntrl scalar base stride (now (window .entry)) origin) ⌝ }
 {
     let after = execute::execute(
         elements,
@@ -145,7 +148,7 @@ pub extern "C" fn kuj_execute(
     );
     let given = after.answer;
     record::store(control, after.control);
-    answers::of_execution(given, beside)
+    answers::give(given, beside)
 }
 
 // Runs a queue straight through.
@@ -158,12 +161,12 @@ pub extern "C" fn kuj_run(
     scalars: &[u64],
     beside: &mut u64,
 ) -> u32
-    ensures { λ r. ⌜ (answer r (now (beside .exit)), now (elements .exit), now (control .exit)) ≡ left (now (control .entry)) (ran (queueRun (queueOf (now (opcodes .entry)) (now (cntrls .entry)) (now (scalars .entry))) (stateOf (now (elements .entry)) (now (control .entry))))) ⌝ }
+    ensures { λ r. ⌜ ((r, now (beside .exit)), now (elements .exit), now (control .exit)) ≡ left (now (control .entry)) (queueRun (queueOf (now (opcodes .entry)) (now (cntrls .entry)) (now (scalars .entry))) (stateOf (now (elements .entry)) (now (control .entry)))) ⌝ }
 {
     let after = queue::run(elements, record::of(control), opcodes, cntrls, scalars);
-    let given = after.reply;
+    let given = after.answer;
     record::store(control, after.control);
-    answers::of_reply(given, beside)
+    answers::give(given, beside)
 }
 
 // Runs a queue by a list of its steps.
@@ -177,8 +180,8 @@ pub extern "C" fn kuj_run_order(
     order: &[u64],
     beside: &mut u64,
 ) -> u32
-    ensures straight { λ r. ⌜ (answer r (now (beside .exit)), now (elements .exit), now (control .exit)) ≡ left (now (control .entry)) (ran (orderedRun (queueOf (now (opcodes .entry)) (now (cntrls .entry)) (now (scalars .entry))) (now (order .entry)) (stateOf (now (elements .entry)) (now (control .entry))))) ⌝ }
-    ensures walked { λ r. ⌜ (answer r (now (beside .exit)), now (elements .exit), now (control .exit)) ≡ left (now (control .entry)) (ran (walkedRun (queueOf (now (opcodes .entry)) (now (cntrls .entry)) (now (scalars .entry))) (now (order .entry)) (stateOf (now (elements .entry)) (now (control .entry))))) ⌝ }
+    ensures straight { λ r. ⌜ ((r, now (beside .exit)), now (elements .exit), now (control .exit)) ≡ left (now (control .entry)) (orderedRun (queueOf (now (opcodes .entry)) (now (cntrls .entry)) (now (scalars .entry))) (now (order .entry)) (stateOf (now (elements .entry)) (now (control .entry)))) ⌝ }
+    ensures walked { λ r. ⌜ ((r, now (beside .exit)), now (elements .exit), now (control .exit)) ≡ left (now (control .entry)) (walkedRun (queueOf (now (opcodes .entry)) (now (cntrls .entry)) (now (scalars .entry))) (now (order .entry)) (stateOf (now (elements .entry)) (now (control .entry)))) ⌝ }
 {
     let after = queue::run_order(
         elements,
@@ -188,9 +191,9 @@ pub extern "C" fn kuj_run_order(
         scalars,
         order,
     );
-    let given = after.reply;
+    let given = after.answer;
     record::store(control, after.control);
-    answers::of_reply(given, beside)
+    answers::give(given, beside)
 }
 
 // Saves the state into lent bytes.
@@ -201,9 +204,9 @@ pub extern "C" fn kuj_save(
     file: &mut [u8],
     beside: &mut u64,
 ) -> u32
-    ensures { λ r. ⌜ (answer r (now (beside .exit)), now (file .exit)) ≡ saving (stateOf (now (elements .entry)) (now (control .entry))) (now (file .entry)) ⌝ }
+    ensures { λ r. ⌜ ((r, now (beside .exit)), now (file .exit)) ≡ given (saving (stateOf (now (elements .entry)) (now (control .entry))) (now (file .entry))) ⌝ }
 {
-    answers::of_save(saved::save(elements, record::of(control), file), beside)
+    answers::give(saved::save(elements, record::of(control), file), beside)
 }
 
 // Loads a state from the bytes of a file.
@@ -214,12 +217,12 @@ pub extern "C" fn kuj_load(
     file: &[u8],
     beside: &mut u64,
 ) -> u32
-    ensures { λ r. ⌜ (answer r (now (beside .exit)), now (elements .exit), now (control .exit)) ≡ left (now (control .entry)) (loading (now (file .entry)) (stateOf (now (elements .entry)) (now (control .entry)))) ⌝ }
+    ensures { λ r. ⌜ ((r, now (beside .exit)), now (elements .exit), now (control .exit)) ≡ left (now (control .entry)) (loading (now (file .entry)) (stateOf (now (elements .entry)) (now (control .entry)))) ⌝ }
 {
     let after = saved::load(elements, record::of(control), file);
     let given = after.answer;
     record::store(control, after.control);
-    answers::of_load(given, beside)
+    answers::give(given, beside)
 }
 
 // The reading of an element, as its kind and its bits.
@@ -234,23 +237,21 @@ pub extern "C" fn kuj_reading(
     bits: &mut u64,
     beside: &mut u64,
 ) -> u32
-    ensures { λ r. ⌜ (answer r (now (beside .exit)), now («kind_read» .exit), now (bits .exit)) ≡ fieldRead (stateOf (now (elements .entry)) (now (control .entry))) reg element kind (now («kind_read» .entry)) (now (bits .entry)) ⌝ }
+    ensures { λ r. ⌜ ((r, now (beside .exit)), now («kind_read» .exit), now (bits .exit)) ≡ fieldRead (stateOf (now (elements .entry)) (now (control .entry))) reg element kind (now («kind_read» .entry)) (now (bits .entry)) ⌝ }
 {
-    let given = panel::reading(
+    let field = panel::reading(
         elements,
         record::of(control),
         Register(reg as usize),
         Element(element as usize),
         kind,
     );
-    *beside = 0;
-    match given {
+    match field {
         Panel::Shown(reading) => {
             *kind_read = floating::kind_of(reading);
             *bits = floating::bits_of(reading);
-            0
+            answers::give(Answer::Done(0), beside)
         }
-        Panel::StateOutOfRange => 12,
-        Panel::NoSuchField => 13,
+        Panel::Refused(given) => answers::give(given, beside),
     }
 }

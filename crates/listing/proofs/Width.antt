@@ -1,6 +1,6 @@
 -- How many digits plain decimal takes. Assumes nothing.
 use mathlib.Core.Logic.{⊎-elim}
-use mathlib.Core.Path.{_≡_, sym, ap, subst}
+use mathlib.Core.Path.{_≡_, ap}
 use Prim.Native.Nat.{ℕ, zero, suc, _+_, _-_, _/_, _^_, _≤_, _<_}
 use native.Mathlib.Nat.{pow-suc}
 use native.Mathlib.Omega.{arith}
@@ -37,11 +37,12 @@ below (suc n) (suc k) x h =
 
 -- n digits count no fewer than the number has where it is below ten to the n
 whole : (n x : ℕ) → x < 10 ^ suc n → x < 10 ^ decimals (suc n) x
-whole zero x h = subst (λ (k : ℕ). x < 10 ^ k) (sym (below-ten zero x h)) h
+whole zero x h = rw (below-ten zero x h) h
 whole (suc n) x h =
+    let less : x / 10 < 10 ^ suc n = omega (arith, pow-suc 10 (suc n)) in
     ⊎-elim
-    (λ u. subst (λ (k : ℕ). x < 10 ^ k) (sym (below-ten (suc n) x u)) u)
-    (λ u. subst (λ (k : ℕ). x < 10 ^ k) (sym (from-ten (suc n) x u)) (omega (arith, pow-suc 10 (decimals (suc n) (x / 10)), whole n (x / 10) (omega (arith, pow-suc 10 (suc n))))))
+    (λ u. rw (below-ten (suc n) x u) u)
+    (λ u. rw (from-ten (suc n) x u) (omega (arith, pow-suc 10 (decimals (suc n) (x / 10)), whole n (x / 10) less)))
     (below-or-not x 10)
 
 -- NO DIGIT IS CUT of a number of 64 bits

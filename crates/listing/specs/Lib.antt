@@ -1,3 +1,3 @@
 -- The listing of a state and of a file.
 pub mod Text
-pub mod Wrote
+pub mod Working

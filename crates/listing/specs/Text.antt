@@ -5,12 +5,13 @@ use lib.Dec.{ltb, leb, eqb}
 use lib.ListN.{length, getD}
 use Rattle.numbers.specs.Choice.{pick}
 use Rattle.numbers.specs.Over.{over}
-use Rattle.state.specs.Answer.{Answer, done, badFile, outOfRange}
+use Rattle.state.specs.declared.answer.Answer.{Answer}
+use Rattle.state.specs.declared.answer.Answer.the-variants.{Done, BadFile, OutOfRange}
+use Rattle.state.specs.Answer.{numberOf, besideOf}
+use Rattle.state.specs.Outcome.{Outcome, outcome, refusedBytes}
 use Rattle.state.specs.State.{State, inRange}
 use Rattle.state.specs.declared.Control.{Control}
 use Rattle.saved.specs.Load.{leading, accepted, stateIn}
-use Rattle.listing.specs.declared.Listed.{Listed}
-use Rattle.listing.specs.declared.Listed.the-variants.{Text, StateOutOfRange, NoRoom}
 
 -- the digit of a number below 16: 0 to 9, then capitals
 unfoldable pub digitOf : ℕ → ℕ
@@ -67,30 +68,24 @@ badLine n = line (98 ∷ 97 ∷ 100 ∷ 32 ∷ 114 ∷ 101 ∷ 99 ∷ 111 ∷ 11
 
 -- an answer's line: the number, one space, what stands beside it
 unfoldable pub answerLine : Answer → List ℕ
-answerLine a = digits 10 (widthOf (a .number)) (a .number) ++ line (32 ∷ []) 10 (widthOf (a .beside)) (a .beside)
+answerLine a = digits 10 (widthOf (numberOf a)) (numberOf a) ++ line (32 ∷ []) 10 (widthOf (besideOf a)) (besideOf a)
 
 -- the listing of the state that a file loads, or its first bad record
 unfoldable pub listed : List ℕ → List ℕ
 listed file = pick (accepted file) (listing (stateIn file)) (badLine (leading 1029 file))
 
--- the number of each answer, and what stands beside it
-abbrev pub listedAnswer : Listed → Answer
-listedAnswer (Text n) = done n
-listedAnswer StateOutOfRange = outOfRange
-listedAnswer NoRoom = badFile 0
-
 -- What a call that prints a text into lent bytes answers, and the bytes after it: the text's length and the
 -- text, with the bytes beyond it kept; with less room than it asks for, 10, and nothing is written.
-unfoldable pub printed : ℕ → List ℕ → List ℕ → Answer × List ℕ
-printed room text bytes = pick (leb room (length bytes)) (done (length text), over bytes 0 text) (badFile 0, bytes)
+unfoldable pub printed : ℕ → List ℕ → List ℕ → Outcome (List ℕ)
+printed room text bytes = pick (leb room (length bytes)) (outcome (Done (length text)) (over bytes 0 text)) (refusedBytes (BadFile 0) bytes)
 
 -- 25,663 bytes hold every listing; a state out of range gets 12 first
-unfoldable pub stateListed : State → List ℕ → Answer × List ℕ
-stateListed s bytes = pick (inRange (s .control)) (printed 25663 (listing s) bytes) (outOfRange, bytes)
+unfoldable pub stateListed : State → List ℕ → Outcome (List ℕ)
+stateListed s bytes = pick (inRange (s .control)) (printed 25663 (listing s) bytes) (refusedBytes OutOfRange bytes)
 
-abbrev pub fileListed : List ℕ → List ℕ → Answer × List ℕ
+abbrev pub fileListed : List ℕ → List ℕ → Outcome (List ℕ)
 fileListed file bytes = printed 25663 (listed file) bytes
 
 -- 42 bytes hold every answer's line
-abbrev pub answerListed : Answer → List ℕ → Answer × List ℕ
+abbrev pub answerListed : Answer → List ℕ → Outcome (List ℕ)
 answerListed a bytes = printed 42 (answerLine a) bytes

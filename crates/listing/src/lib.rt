@@ -1,33 +1,24 @@
-// The listing of a state and of a saved file.
+// The listing of a state and of a saved file. A call that prints into lent bytes gives back the text's length.
 mod write;
 
-use saved::Loaded;
 use state::Control;
 use state::Element;
 use state::Register;
+use state::answer;
+use state::answer::Answer;
 ghost use mathlib.Core.Path.{_≡_};
 ghost use Prim.Native.Nat.{_+_, _<_, _≤_};
 ghost use lib.ListN.{length};
-ghost use Rattle.state.specs.Answer.{answer as answerOf};
+ghost use Rattle.state.specs.Outcome.{outcome};
 ghost use Rattle.state.specs.State.{state as stateOf};
-ghost use Rattle.listing.specs.Text.{elementText, elementLines, listedAnswer, stateListed, answerListed, fileListed};
-ghost use Rattle.listing.specs.Wrote.{Wrote};
+ghost use Rattle.listing.specs.Text.{elementText, elementLines, stateListed, answerListed, fileListed};
+ghost use Rattle.listing.specs.Working.{Wrote};
 
 // The bytes that hold every listing.
 const LISTING_ROOM: usize = 25663;
 
 // The bytes that hold every answer's line.
 const ANSWER_ROOM: usize = 42;
-
-// What a call that prints into lent bytes gives back.
-pub enum Listed {
-    // The text's length.
-    Text(usize),
-    // Nothing was written: the state is out of range.
-    StateOutOfRange,
-    // Nothing was written: the bytes may not hold the text.
-    NoRoom,
-}
 
 // Writes the line of record k, if it has one.
 fn put_element(text: &mut [u8], at: usize, k: usize, contents: u64) -> usize
@@ -55,36 +46,38 @@ fn put_elements(elements: &[u64; 1024], text: &mut [u8]) -> usize
 }
 
 // Prints the listing of a state.
-pub fn list_state(elements: &[u64; 1024], control: Control, text: &mut [u8]) -> Listed
-    ensures { λ r. ⌜ (listedAnswer r, now (text .exit)) ≡ stateListed (stateOf (now (elements .entry)) control) (now (text .entry)) ⌝ }
+pub fn list_state(elements: &[u64; 1024], control: Control, text: &mut [u8]) -> Answer
+    ensures { λ r. ⌜ outcome r (now (text .exit)) ≡ stateListed (stateOf (now (elements .entry)) control) (now (text .entry)) ⌝ }
 {
     if !state::in_range(control) {
-        return Listed::StateOutOfRange;
+        return Answer::OutOfRange;
     }
     if text.len() < LISTING_ROOM {
-        return Listed::NoRoom;
+        return Answer::BadFile(0);
     }
     let at = put_elements(elements, &mut *text);
-    Listed::Text(write::control_lines(text, at, control))
+    Answer::Done(write::control_lines(text, at, control) as u64)
 }
 
 // Prints an answer's line.
-pub fn list_answer(number: u64, beside: u64, text: &mut [u8]) -> Listed
-    ensures { λ r. ⌜ (listedAnswer r, now (text .exit)) ≡ answerListed (answerOf number beside) (now (text .entry)) ⌝ }
+pub fn list_answer(given: Answer, text: &mut [u8]) -> Answer
+    ensures { λ r. ⌜ outcome r (now (text .exit)) ≡ answerListed given (now (text .entry)) ⌝ }
 {
     if text.len() < ANSWER_ROOM {
-        return Listed::NoRoom;
+        return Answer::BadFile(0);
     }
+    let number = answer::number(given) as u64;
+    let beside = answer::beside(given);
     let at = write::number(&mut *text, 0, 10, write::width(number), number);
-    Listed::Text(write::line(text, at, b" ", 10, write::width(beside), beside))
+    Answer::Done(write::line(text, at, b" ", 10, write::width(beside), beside) as u64)
 }
 
 // Prints the listing of a saved file, or its first bad record.
-pub fn list_file(file: &[u8], text: &mut [u8]) -> Listed
-    ensures { λ r. ⌜ (listedAnswer r, now (text .exit)) ≡ fileListed (now (file .entry)) (now (text .entry)) ⌝ }
+pub fn list_file(file: &[u8], text: &mut [u8]) -> Answer
+    ensures { λ r. ⌜ outcome r (now (text .exit)) ≡ fileListed (now (file .entry)) (now (text .entry)) ⌝ }
 {
     if text.len() < LISTING_ROOM {
-        return Listed::NoRoom;
+        return Answer::BadFile(0);
     }
     let mut elements = [0u64; 1024];
     let none = Control {
@@ -95,11 +88,10 @@ pub fn list_file(file: &[u8], text: &mut [u8]) -> Listed
         vpsr: 0,
     };
     let after = saved::load(&mut elements, none, file);
-    let answer = after.answer;
-    match answer {
-        Loaded::Done => list_state(&elements, after.control, text),
-        Loaded::BadRecord(n) => {
-            Listed::Text(write::line(text, 0, b"bad record ", 10, write::width(n), n))
-        }
+    let loaded = after.answer;
+    if answer::is_done(loaded) {
+        return list_state(&elements, after.control, text);
     }
+    let n = answer::beside(loaded);
+    Answer::Done(write::line(text, 0, b"bad record ", 10, write::width(n), n) as u64)
 }

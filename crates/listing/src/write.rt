@@ -6,7 +6,7 @@ ghost use mathlib.Core.Path.{_≡_};
 ghost use Prim.Native.Nat.{_+_, _<_, _≤_};
 ghost use lib.ListN.{length};
 ghost use Rattle.listing.specs.Text.{digitOf, digits, widthOf, line as lineOf, elementLine, controlLines};
-ghost use Rattle.listing.specs.Wrote.{Wrote};
+ghost use Rattle.listing.specs.Working.{Wrote};
 
 // Copies bytes.
 fn copy(text: &mut [u8], at: usize, bytes: &[u8]) -> usize

@@ -8,8 +8,9 @@ use borrow.Author.Tests.{ltb-true, le-ltb}
 use lib.ListN.{set}
 use lib.Dec.{ltb}
 use Rattle.numbers.specs.Choice.{pick}
-use Rattle.numbers.specs.Bits.{bit, withBit, chosen, OnesBelow}
-use Rattle.numbers.specs.Rising.{rising, ofOnes}
+use Rattle.numbers.specs.Bits.{bit, withBit}
+use Rattle.numbers.specs.Working.{chosen, OnesBelow, ofOnes}
+use Rattle.numbers.specs.Rising.{rising}
 use Rattle.numbers.proofs.BitLaws.{bit-kept, bit-replaced, decEq}
 use Rattle.numbers.proofs.Sets.{bit-none}
 use Rattle.numbers.proofs.Rising.{settles}
@@ -19,15 +20,15 @@ use Rattle.state.specs.declared.Control.{Control}
 use Rattle.state.specs.State.{placeOf}
 use Rattle.state.specs.Elements.{matches}
 use Rattle.opcodes.specs.declared.Instruction.{Instruction}
-use Rattle.machine.specs.Kind.{kindOf, isCompare, isMerge, isIota}
-use Rattle.machine.specs.Run.{Run, run, progress, withVmr, gathered}
+use Rattle.opcodes.specs.Opcodes.{writesMask, inOneStep, ignoresMoe}
+use Rattle.machine.specs.Run.{Run, run, progress, withVmr}
 use Rattle.machine.specs.Step.{operated, received, written, worked, elementStep}
 use Rattle.machine.specs.Iota.{iotaStep}
 use Rattle.machine.specs.Instruction.{stepOf, stepsBelow, wholeOf}
-use Rattle.machine.specs.Loops.{doneFor}
+use Rattle.machine.specs.Working.{doneFor}
 
 -- IOTA's one step is the whole instruction
-one-step : (ins : Instruction) (scalar : ℕ) (r : Run) → isIota (kindOf (ins .work)) ≡ true → iotaStep ins scalar r ≡ wholeOf ins scalar r
+one-step : (ins : Instruction) (scalar : ℕ) (r : Run) → inOneStep ins ≡ true → iotaStep ins scalar r ≡ wholeOf ins scalar r
 unfolding wholeOf stepsBelow stepOf
 one-step ins scalar r e =
     sym
@@ -39,7 +40,7 @@ module _ (ins : Instruction) (scalar i : ℕ) (r : Run) where
   abbrev writes : Bool → ℕ → Run
   writes t v =
       pick t
-      (run (r .elements) (progress (withVmr (r .progress .control) (withBit (r .progress .control .vmr) i (v % 2))) (r .progress .recorded)))
+      (run (r .elements) (progress (withVmr (r .progress .control) (withBit (r .progress .control .vmr) i (v % 2))) (r .progress .gathered)))
       (run (set (r .elements) (placeOf (ins .vc .0) i) v) (r .progress))
 
   written-vlr : (t : Bool) (v : ℕ) → writes t v .progress .control .vlr ≡ r .progress .control .vlr
@@ -51,12 +52,12 @@ module _ (ins : Instruction) (scalar i : ℕ) (r : Run) where
   written-bit false v j other = refl
 
   keeps-vlr : worked ins scalar i r .progress .control .vlr ≡ r .progress .control .vlr
-  unfolding worked written gathered
-  keeps-vlr = written-vlr (isCompare (kindOf (ins .work))) (received ins scalar i r .value)
+  unfolding worked written
+  keeps-vlr = written-vlr (writesMask ins) (received ins scalar i r .value)
 
   keeps-bit : (j : ℕ) → (j ≡ i → ⊥) → bit (worked ins scalar i r .progress .control .vmr) j ≡ bit (r .progress .control .vmr) j
-  unfolding worked written gathered
-  keeps-bit j other = written-bit (isCompare (kindOf (ins .work))) (received ins scalar i r .value) j other
+  unfolding worked written
+  keeps-bit j other = written-bit (writesMask ins) (received ins scalar i r .value) j other
 
 -- ---- of the elements below n: VLR stays, and so do the mask bits from n on
 module _ (ins : Instruction) (scalar which : ℕ) (r : Run) where
@@ -84,7 +85,7 @@ module _ (ins : Instruction) (scalar which : ℕ) (r : Run) where
 -- ---- the set of the elements that an instruction operates on
 module _ (ins : Instruction) (scalar all : ℕ) (r : Run) (short : r .progress .control .vlr ≤ 64) where
   abbrev merge : Bool
-  merge = isMerge (kindOf (ins .work))
+  merge = ignoresMoe ins
 
   abbrev Operated : Type 0
   Operated = OnesBelow (r .progress .control .vlr) (chosen (ins .moe && not merge) (ins .mtf) (r .progress .control .vmr)) all
@@ -103,10 +104,10 @@ module _ (ins : Instruction) (scalar all : ℕ) (r : Run) (short : r .progress .
         ∙ ap (λ (t : Bool). ltb n (r .progress .control .vlr) && t) (same-choice (ins .moe) merge (matches (r .progress .control .vmr) (ins .mtf) n))
         ∙ sym (set .ones n)
 
-    module _ (no-iota : isIota (kindOf (ins .work)) ≡ false) where
+    module _ (no-iota : inOneStep ins ≡ false) where
       of-element : (n : ℕ) (x : Run) → stepOf ins scalar n x ≡ elementStep ins scalar n x
       unfolding stepOf
-      of-element n x = pick-false (isIota (kindOf (ins .work))) (iotaStep ins scalar x) (elementStep ins scalar n x) no-iota
+      of-element n x = pick-false (inOneStep ins) (iotaStep ins scalar x) (elementStep ins scalar n x) no-iota
 
       -- the steps of the elements below n: the work of those of them that are operated on
       same-steps : (n : ℕ) → stepsBelow n ins scalar r ≡ rising (ofOnes (worked ins scalar) all) n r
@@ -136,7 +137,7 @@ module _ (ins : Instruction) (scalar all : ℕ) (r : Run) (short : r .progress .
           past j h = set .ones j ∙ ap (λ (t : Bool). t && chosen (ins .moe && not merge) (ins .mtf) (r .progress .control .vmr) j) (le-ltb j vlr h)
 
     -- the step of one element: its work, or nothing
-    module _ (i : ℕ) (no-iota : isIota (kindOf (ins .work)) ≡ false) where
+    module _ (i : ℕ) (no-iota : inOneStep ins ≡ false) where
       its-step : (t : Bool) → bit all i ≡ t → pick t (worked ins scalar i r) r ≡ stepOf ins scalar i r
       unfolding elementStep
       its-step t e = sym (of-element no-iota i r ∙ ap (λ (u : Bool). pick u (worked ins scalar i r) r) (is-operated i (r .progress .control) refl refl ∙ e))
@@ -150,17 +151,17 @@ module _ (ins : Instruction) (scalar all : ℕ) (r : Run) (short : r .progress .
     -- all of them are the whole instruction
     pub whole : doneFor all ins scalar r ≡ wholeOf ins scalar r
     unfolding doneFor
-    whole = at (isIota (kindOf (ins .work))) refl
+    whole = at (inOneStep ins) refl
       where
-        at : (t : Bool) → isIota (kindOf (ins .work)) ≡ t → pick t (iotaStep ins scalar r) (rising (ofOnes (worked ins scalar) all) 64 r) ≡ wholeOf ins scalar r
+        at : (t : Bool) → inOneStep ins ≡ t → pick t (iotaStep ins scalar r) (rising (ofOnes (worked ins scalar) all) 64 r) ≡ wholeOf ins scalar r
         at true e = one-step ins scalar r e
         at false e = all-steps e
 
 -- the work of one element
-pub one-done : (ins : Instruction) (scalar i : ℕ) (r : Run) → i < 64 → isIota (kindOf (ins .work)) ≡ false → doneFor (withBit 0 i 1) ins scalar r ≡ worked ins scalar i r
+pub one-done : (ins : Instruction) (scalar i : ℕ) (r : Run) → i < 64 → inOneStep ins ≡ false → doneFor (withBit 0 i 1) ins scalar r ≡ worked ins scalar i r
 unfolding doneFor
 one-done ins scalar i r h no-iota =
-    pick-false (isIota (kindOf (ins .work))) (iotaStep ins scalar r) _ no-iota
+    pick-false (inOneStep ins) (iotaStep ins scalar r) _ no-iota
     ∙ single (worked ins scalar) r i (withBit 0 i 1) h (bit-replaced 0 i 1 (omega arith)) (λ j _ e. only j e (decEq j i))
   where
     only : (j : ℕ) → bit (withBit 0 i 1) j ≡ true → Dec (j ≡ i) → j ≡ i
@@ -168,9 +169,9 @@ one-done ins scalar i r h no-iota =
     only j e (no q) = absurd (true-not-false (sym (bit-none j) ∙ sym (bit-kept 0 i 1 (omega arith) j q) ∙ e))
 
 -- IOTA's one step
-pub iota-done : (ins : Instruction) (scalar i which : ℕ) (r : Run) → isIota (kindOf (ins .work)) ≡ true → doneFor which ins scalar r ≡ stepOf ins scalar i r
+pub iota-done : (ins : Instruction) (scalar i which : ℕ) (r : Run) → inOneStep ins ≡ true → doneFor which ins scalar r ≡ stepOf ins scalar i r
 unfolding doneFor stepOf
-iota-done ins scalar i which r e = pick-true (isIota (kindOf (ins .work))) _ _ e ∙ sym (pick-true (isIota (kindOf (ins .work))) _ _ e)
+iota-done ins scalar i which r e = pick-true (inOneStep ins) _ _ e ∙ sym (pick-true (inOneStep ins) _ _ e)
 
 -- a set below n lies below n
 pub below : (n : ℕ) (choice : ℕ → Bool) (which : ℕ) → OnesBelow n choice which → (j : ℕ) → bit which j ≡ true → j < n

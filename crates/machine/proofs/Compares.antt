@@ -1,8 +1,8 @@
 -- The loop over compares, and what it makes of the mask. Assumes nothing.
-use mathlib.Core.Path.{_≡_, refl, sym, ap, ap₂, _∙_}
+use mathlib.Core.Path.{_≡_, refl, sym, ap, ap₂, subst, _∙_}
 use mathlib.Core.Bool.{Bool, true, false, not, _&&_, _||_}
 use mathlib.Core.Logic.{_⊎_, inl, inr}
-use mathlib.Core.List.{List}
+use mathlib.Core.List.{List, [], _∷_}
 use Prim.Native.Nat.{ℕ, zero, suc, _+_, _-_, _*_, _/_, _%_, _^_, _≤_, _<_}
 use native.Mathlib.Nat.{pow-suc, mod-lt, zero-add}
 use native.Mathlib.Omega.{arith}
@@ -12,30 +12,31 @@ use lib.Bits.{bitOr, bitAnd, or-zero-l, or-zero-r}
 use lib.Pow.{pow-mono}
 use Rattle.numbers.specs.Choice.{pick}
 use Rattle.numbers.specs.Bits.{bit, withBit}
-use Rattle.numbers.specs.Rising.{rising, ofOnes}
+use Rattle.numbers.specs.Rising.{rising}
+use Rattle.numbers.specs.Working.{ofOnes}
 use Rattle.numbers.proofs.BitLaws.{digit-suc, digit-zero, bit-is, bit-kept, bit-replaced, decEq}
 use Rattle.numbers.proofs.Sets.{same-bits, bit-and, bit-none}
 use Rattle.numbers.proofs.SetBits.{ones-carry}
 use Rattle.numbers.proofs.Tests.{below-or-not, and-left, and-right, pick-true, pick-false}
 use Rattle.state.specs.Elements.{at, matches}
-use Rattle.opcodes.specs.declared.Work.{Work}
 use Rattle.opcodes.specs.declared.Instruction.{Instruction}
-use Rattle.opcodes.specs.WorkNumbers.{workNumber}
+use Rattle.opcodes.specs.Opcodes.{workAt, rowAt, writesMask, inOneStep}
+use Rattle.opcodes.specs.ControlWord.{fieldBy, fieldOf}
+use Rattle.opcodes.specs.Works.{Writes, element, maskBit, countedElements, bytes, isMaskBit, isCounted, reads, rowOf}
+use Rattle.opcodes.proofs.Test.{told, each-named}
 use Rattle.element.specs.declared.Out.{Out}
 use Rattle.element.specs.Receives.{resultOf}
-use Rattle.element.proofs.Codes.{compare-ignores, compare-types}
+use Rattle.element.specs.Working.{isCompare}
+use Rattle.element.proofs.Groups.{compare-types}
 use Rattle.element.proofs.Opposites.{opposite-types, opposite-bit}
 use Rattle.machine.specs.declared.Effect.{Effect}
-use Rattle.machine.specs.declared.Kind.{Kind}
-use Rattle.machine.specs.declared.Kind.the-variants as kind
 use Rattle.machine.specs.declared.Progress.{Progress}
-use Rattle.machine.specs.Kind.{kindOf, isCompare, isIota}
-use Rattle.machine.specs.Run.{Run, run, progress, withVmr, withVcr, gathered}
-use Rattle.machine.specs.Step.{first, received, registerBit, notes, written, recorded, worked}
+use Rattle.machine.specs.declared.Gathered.{Gathered}
+use Rattle.machine.specs.Run.{Run, run, progress, withVmr, withVcr, noted, joined}
+use Rattle.machine.specs.Step.{first, second, chooses, received, registerBit, notes, written, recorded, worked}
 use Rattle.machine.specs.Iota.{iotaStep}
-use Rattle.machine.specs.Loops.{operandAt, comparedAt, oddFrom, OddBelow, effected, doneFor}
-use Rattle.machine.proofs.Gather.{gathered-twice, gathered-none}
-use Rattle.machine.proofs.WorkKinds.{is-compare}
+use Rattle.machine.specs.Working.{operandAt, comparedAt, oddFrom, OddBelow, effected, doneFor}
+use Rattle.machine.proofs.Gather.{joined-nothing, noted-twice}
 
 -- ---- the set that the loop makes
 pub odd-small : (v : ℕ → ℕ) (i n : ℕ) → oddFrom v i n < 2 ^ n
@@ -78,6 +79,15 @@ odd-below v n set q k h =
     ∙ odd-bit v 0 n k h
     ∙ ap (λ (j : ℕ). eqb (v j % 2) 1) (zero-add k)
 
+-- the same of what a compare gives, by its form, and by its number
+module _ (ins : Instruction) (relation x : ℕ) (l : List ℕ) (v : Out → ℕ) (n set : ℕ) where
+  pub in-form : (form t : Bool) → form ≡ t → set ≡ oddFrom (λ i. v (comparedAt 4 relation t ins x l i)) 0 n → set ≡ oddFrom (λ i. v (comparedAt 4 relation form ins x l i)) 0 n
+  in-form form t e f = f ∙ ap (λ (u : Bool). oddFrom (λ i. v (comparedAt 4 relation u ins x l i)) 0 n) (sym e)
+
+  pub for-work : (scalar : Bool) (work k : ℕ) → work ≡ k → OddBelow (λ i. v (comparedAt k relation scalar ins x l i)) n set
+      → OddBelow (λ i. v (comparedAt work relation scalar ins x l i)) n set
+  for-work scalar work k e = subst (λ (j : ℕ). OddBelow (λ i. v (comparedAt j relation scalar ins x l i)) n set) (sym e)
+
 -- ---- the loop, from the highest element down
 pub nothing : (v : ℕ → ℕ) (to : ℕ) → 0 ≡ oddFrom v to (to - to)
 unfolding oddFrom
@@ -110,29 +120,38 @@ module _ (v : ℕ → ℕ) (i to : ℕ) (set : ℕ) (is : set ≡ oddFrom v i (t
       count = omega arith
 
 -- ---- an F compare, from what the relation's bits <1:0> found and refused
-module _ (code relation : ℕ) (scalar : Bool) (x va vb : ℕ) (l : List ℕ) (other : code ≡ 4 → ⊥) (n : ℕ) where
+module _ (relation : ℕ) (scalar : Bool) (ins : Instruction) (x : ℕ) (l : List ℕ) (n : ℕ) where
   abbrev by : ℕ → ℕ → Out
-  by r i = comparedAt code r scalar x va vb l i
+  by r i = comparedAt 13 r scalar ins x l i
 
   pub opposite-refused : (refused : ℕ) → refused ≡ oddFrom (λ i. by (relation % 4) i .types / 4) 0 n → OddBelow (λ i. by relation i .types / 4) n refused
+  unfolding workAt
   opposite-refused refused q i h =
       odd-below _ n refused q i h
-      ∙ ap (λ (t : ℕ). eqb (t / 4 % 2) 1) (opposite-types code other relation (operandAt scalar x va l i) (at l vb i))
+      ∙ ap (λ (t : ℕ). eqb (t / 4 % 2) 1) (opposite-types relation (operandAt scalar x (ins .va .0) l i) (at l (ins .vb .0) i))
 
   pub opposite-found : (found refused all : ℕ) → found ≡ oddFrom (λ i. by (relation % 4) i .value) 0 n → refused ≡ oddFrom (λ i. by (relation % 4) i .types / 4) 0 n → n ≤ 64
       → ((i : ℕ) → i < 64 → bit all i ≡ pick (eqb (relation / 4 % 2) 1) (not (bit found i || bit refused i)) (bit found i)) → OddBelow (λ i. by relation i .value) n all
+  unfolding workAt
   opposite-found found refused all p q s e i h =
       e i (omega arith)
       ∙ ap₂ (λ (f r : Bool). pick (eqb (relation / 4 % 2) 1) (not (f || r)) f) (odd-below _ n found p i h) (odd-below _ n refused q i h)
-      ∙ opposite-bit code other relation (operandAt scalar x va l i) (at l vb i)
+      ∙ opposite-bit relation (operandAt scalar x (ins .va .0) l i) (at l (ins .vb .0) i)
 
 -- ---- the mask, as the compares of a set leave it
-no-iota : (k : Kind) → isCompare k ≡ true → isIota k ≡ false
-no-iota kind.Element e = refl
-no-iota kind.Merge e = refl
-no-iota kind.Compare e = refl
-no-iota kind.Iota e = sym e
-no-iota kind.Memory e = refl
+no-iota : (w : Writes) → isMaskBit w ≡ true → isCounted w ≡ false
+no-iota element e = refl
+no-iota maskBit e = refl
+no-iota countedElements e = sym e
+no-iota bytes e = refl
+
+-- the works that write mask bits are the compares
+compare-number : (n : ℕ) → n < 256 → isMaskBit (rowAt n .writes) ≡ isCompare n
+unfolding rowAt rowOf workAt
+compare-number = told (λ n. isMaskBit (rowAt n .writes)) isCompare tt
+
+pub is-compare : (ins : Instruction) → ins .work < 256 → writesMask ins ≡ true → isCompare (ins .work) ≡ true
+is-compare ins small e = sym (compare-number (ins .work) small) ∙ e
 
 record Marks : Type 0 where
   vmr : ℕ
@@ -141,39 +160,63 @@ record Marks : Type 0 where
 abbrev marks : ℕ → ℕ → Marks
 marks v t = record { vmr = v; types = t }
 
-module _ (ins : Instruction) (x which : ℕ) (l : List ℕ) (p : Progress) (compare : isCompare (kindOf (ins .work)) ≡ true) where
+module _ (ins : Instruction) (x which : ℕ) (l : List ℕ) (p : Progress) (small : ins .work < 256) (compare : writesMask ins ≡ true) where
+  is-one : isCompare (ins .work) ≡ true
+  is-one = is-compare ins small compare
+
   abbrev pub out : ℕ → Out
-  out i = comparedAt (workNumber (ins .work)) (ins .vc .0 % 8) (ins .scalar) x (ins .va .0) (ins .vb .0) l i
+  out i = comparedAt (ins .work) (ins .vc .0 % 8) (ins .scalar) ins x l i
 
   abbrev mark : ℕ → Marks → Marks
   mark i m = marks (withBit (m .vmr) i (out i .value % 2)) (bitOr (m .types) (notes 0 (out i .types)))
 
   -- the run, where the steps have come to m
-  abbrev joined : Marks → Run
-  joined m = run l (gathered (m .types) (progress (withVmr (p .control) (m .vmr)) (p .recorded)))
+  abbrev reached : Marks → Run
+  reached m = run l (progress (withVmr (p .control) (m .vmr)) (joined (p .gathered) (noted (m .types))))
 
   module _ (i : ℕ) (m : Marks) where
-    receives : received ins x i (joined m) ≡ out i
-    unfolding received gathered
+    abbrev given : ℕ → Bool → Out
+    given n t =
+        resultOf (workAt n) (ins .exc) (fieldBy (rowAt n .holds) ins) (pick (not (rowAt n .obeysMoe)) t false)
+        (pick (ins .scalar) x (pick (reads (rowAt n .va) (ins .scalar)) (at l (ins .va .0) i) 0))
+        (pick (reads (rowAt n .vb) (ins .scalar)) (at l (ins .vb .0) i) 0)
+        0
+
+    form : (t : Bool) (y : ℕ) → pick t x (pick (not t) y 0) ≡ pick t x y
+    form true y = refl
+    form false y = refl
+
+    of-number : (n : ℕ) → isCompare n ≡ true → (t : Bool) → given n t ≡ comparedAt n (ins .vc .0 % 8) (ins .scalar) ins x l i
+    unfolding resultOf workAt rowAt rowOf
+    of-number n e t =
+        each-named (λ (k : ℕ). given k t ≡ comparedAt k (ins .vc .0 % 8) (ins .scalar) ins x l i) (13 ∷ 4 ∷ []) (
+          ap (λ (y : ℕ). resultOf (workAt 13) false (ins .vc .0 % 8) false y (at l (ins .vb .0) i) 0) (form (ins .scalar) (at l (ins .va .0) i)),
+          (ap (λ (y : ℕ). resultOf (workAt 4) false (ins .vc .0 % 8) false y (at l (ins .vb .0) i) 0) (form (ins .scalar) (at l (ins .va .0) i)), tt),
+        )
+        n e
+
+    receives : received ins x i (reached m) ≡ out i
+    unfolding received
     receives =
-        ap (λ (f : ℕ). resultOf (ins .work) (ins .exc) f (matches (m .vmr) (ins .mtf) i) (first ins x l i) (at l (ins .vb .0) i) (at l (ins .vc .0) i))
-        (ap (λ (t : Bool). pick t (ins .vc .0 % 8) (ins .va .0)) compare)
-        ∙ ap (λ (w : Work). resultOf w (ins .exc) (ins .vc .0 % 8) (matches (m .vmr) (ins .mtf) i) (first ins x l i) (at l (ins .vb .0) i) (at l (ins .vc .0) i))
-        (sym (is-compare (ins .work) compare))
-        ∙ sym (compare-ignores (workNumber (ins .work)) (ins .exc) (ins .vc .0 % 8) (matches (m .vmr) (ins .mtf) i) (first ins x l i) (at l (ins .vb .0) i) (at l (ins .vc .0) i))
+        ap (λ (t : Bool). resultOf (workAt (ins .work)) (ins .exc) (fieldOf ins) (chooses ins (m .vmr) i) (first ins x l i) (second ins l i) (pick t 0 (at l (ins .vc .0) i)))
+        compare
+        ∙ of-number (ins .work) is-one (matches (m .vmr) (ins .mtf) i)
 
-    writes : (v : ℕ) → written ins i v (joined m) ≡ run l (gathered (m .types) (progress (withVmr (p .control) (withBit (m .vmr) i (v % 2))) (p .recorded)))
-    unfolding written gathered
-    writes v = rw compare
+    writes : (v : ℕ) → written ins i v (reached m) ≡ run l (progress (withVmr (p .control) (withBit (m .vmr) i (v % 2))) (reached m .progress .gathered))
+    unfolding written
+    writes v = pick-true (writesMask ins) _ _ compare
 
-    one : joined (mark i m) ≡ worked ins x i (joined m)
+    one : reached (mark i m) ≡ worked ins x i (reached m)
     unfolding worked
     one =
         sym
-        (ap (λ (o : Out). recorded (notes (registerBit (isCompare (kindOf (ins .work))) (ins .vc .0)) (o .types)) (written ins i (o .value) (joined m))) receives
-        ∙ ap (λ (t : Bool). recorded (notes (registerBit t (ins .vc .0)) (out i .types)) (written ins i (out i .value) (joined m))) compare
+        (ap (λ (o : Out). recorded (notes (registerBit (writesMask ins) (ins .vc .0)) (o .types)) (written ins i (o .value) (reached m))) receives
+        ∙ ap (λ (t : Bool). recorded (notes (registerBit t (ins .vc .0)) (out i .types)) (written ins i (out i .value) (reached m))) compare
         ∙ ap (recorded (notes 0 (out i .types))) (writes (out i .value))
-        ∙ ap (run l) (gathered-twice (m .types) (notes 0 (out i .types)) (progress (withVmr (p .control) (withBit (m .vmr) i (out i .value % 2))) (p .recorded))))
+        ∙ ap (λ (g : Gathered). run l (progress (withVmr (p .control) (withBit (m .vmr) i (out i .value % 2))) g)) (noted-twice (p .gathered) (m .types) (notes 0 (out i .types))))
+
+  starts : reached (marks (p .control .vmr) 0) ≡ run l p
+  starts = ap (λ (g : Gathered). run l (progress (p .control) g)) (joined-nothing (p .gathered))
 
   -- of one element
   plain : (t : ℕ) → bitOr 0 (notes 0 t) ≡ t
@@ -187,18 +230,18 @@ module _ (ins : Instruction) (x which : ℕ) (l : List ℕ) (p : Progress) (comp
   pub compared-one : (e : Effect) (i : ℕ) → e .vmr ≡ withBit (p .control .vmr) i (out i .value % 2) → e .vcr ≡ p .control .vcr → e .notes ≡ out i .types
       → run l (effected e p) ≡ worked ins x i (run l p)
   compared-one e i v c n =
-      ap₂ (λ (a b : ℕ). run l (gathered b (progress (withVcr (withVmr (p .control) a) (e .vcr)) (p .recorded)))) v (n ∙ sym (plain (out i .types)))
-      ∙ ap (λ (a : ℕ). run l (gathered (bitOr 0 (notes 0 (out i .types))) (progress (withVcr (withVmr (p .control) (withBit (p .control .vmr) i (out i .value % 2))) a) (p .recorded)))) c
+      ap₂ (λ (a b : ℕ). run l (progress (withVcr (withVmr (p .control) a) (e .vcr)) (joined (p .gathered) (noted b)))) v (n ∙ sym (plain (out i .types)))
+      ∙ ap (λ (a : ℕ). run l (progress (withVcr (reached (mark i (marks (p .control .vmr) 0)) .progress .control) a) (joined (p .gathered) (noted (bitOr 0 (notes 0 (out i .types))))))) c
       ∙ one i (marks (p .control .vmr) 0)
-      ∙ ap (λ (q : Progress). worked ins x i (run l q)) (gathered-none p)
+      ∙ ap (worked ins x i) starts
 
   abbrev after : ℕ → Marks
   after n = rising (ofOnes mark which) n (marks (p .control .vmr) 0)
 
-  all : joined (after 64) ≡ rising (ofOnes (worked ins x) which) 64 (run l p)
+  all : reached (after 64) ≡ rising (ofOnes (worked ins x) which) 64 (run l p)
   all =
-      ones-carry joined mark (worked ins x) which 64 (marks (p .control .vmr) 0) (λ i m _. one i m)
-      ∙ ap (λ (q : Progress). rising (ofOnes (worked ins x) which) 64 (run l q)) (gathered-none p)
+      ones-carry reached mark (worked ins x) which 64 (marks (p .control .vmr) 0) (λ i m _. one i m)
+      ∙ ap (rising (ofOnes (worked ins x) which) 64) starts
 
   -- bit k of the mask
   bits : (n k : ℕ) → bit (after n .vmr) k ≡ pick (ltb k n && bit which k) (eqb (out k .value % 2) 1) (bit (p .control .vmr) k)
@@ -256,7 +299,7 @@ module _ (ins : Instruction) (x which : ℕ) (l : List ℕ) (p : Progress) (comp
       stays false = refl
 
       at : (t : Bool) → after n .types ≡ pick (none n) 0 4 → (pick t (mark n (after n)) (after n)) .types ≡ pick (none n && not (t && refuses n)) 0 4
-      at true b = ap (λ (y : ℕ). bitOr y (notes 0 (out n .types))) b ∙ joins (none n) (out n .types) (compare-types (workNumber (ins .work)) _ _ _)
+      at true b = ap (λ (y : ℕ). bitOr y (notes 0 (out n .types))) b ∙ joins (none n) (out n .types) (compare-types (ins .work) is-one _ _ _)
       at false b = b ∙ stays (none n)
 
   module _ (r : ℕ) (is : (k : ℕ) → bit r k ≡ (bit which k && refuses k)) (short : (k : ℕ) → bit which k ≡ true → k < 64) where
@@ -340,7 +383,7 @@ module _ (ins : Instruction) (x which : ℕ) (l : List ℕ) (p : Progress) (comp
       pub compared : run l (effected e p) ≡ doneFor which ins x (run l p)
       unfolding doneFor
       compared =
-          ap₂ (λ (v t : ℕ). run l (gathered t (progress (withVcr (withVmr (p .control) v) (e .vcr)) (p .recorded)))) same-mask same-types
-          ∙ ap (λ (v : ℕ). run l (gathered (after 64 .types) (progress (withVcr (withVmr (p .control) (after 64 .vmr)) v) (p .recorded)))) is-vcr
+          ap₂ (λ (v t : ℕ). run l (progress (withVcr (withVmr (p .control) v) (e .vcr)) (joined (p .gathered) (noted t)))) same-mask same-types
+          ∙ ap (λ (v : ℕ). run l (progress (withVcr (withVmr (p .control) (after 64 .vmr)) v) (joined (p .gathered) (noted (after 64 .types))))) is-vcr
           ∙ all
-          ∙ sym (pick-false (isIota (kindOf (ins .work))) (iotaStep ins x (run l p)) _ (no-iota (kindOf (ins .work)) compare))
+          ∙ sym (pick-false (inOneStep ins) (iotaStep ins x (run l p)) _ (no-iota (rowAt (ins .work) .writes) compare))

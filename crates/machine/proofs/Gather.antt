@@ -1,4 +1,5 @@
--- VAER and the bit beside the state gather by or: once, twice, and nothing. Assumes nothing.
+-- What a run gathers, by or: it is bound to no order, and nothing adds nothing. And the types that elements recorded, before or after the register's bit joins
+-- them. Assumes nothing.
 use mathlib.Core.Path.{_≡_, refl, sym, ap, ap₂, _∙_}
 use mathlib.Core.Bool.{Bool, true, false, not, _||_, _&&_}
 use Prim.Native.Nat.{ℕ}
@@ -6,31 +7,48 @@ use lib.Bits.{bitOr, or-zero-l, or-zero-r, or-self, or-comm}
 use lib.Dec.{eqb}
 use borrow.Author.Tests.{eqb-true}
 use Rattle.numbers.specs.Choice.{pick}
-use Rattle.machine.specs.Step.{notes}
-use Rattle.machine.specs.declared.Progress.{Progress}
-use Rattle.machine.specs.Run.{progress, withVaer, gathered}
 use Rattle.numbers.proofs.BitLaws.{or-assoc, or-none}
+use Rattle.machine.specs.declared.Gathered.{Gathered}
+use Rattle.machine.specs.Run.{nothing, noted, joined}
+use Rattle.machine.specs.Step.{notes}
 
-any : (r x y : Bool) → ((r || not x) || not y) ≡ (r || not (x && y))
-any true x y = refl
-any false true y = refl
-any false false y = refl
+abbrev gathered : ℕ → Bool → Gathered
+gathered v r = record { vaer = v; recorded = r }
 
-or-false : (r : Bool) → (r || false) ≡ r
-or-false true = refl
-or-false false = refl
+either-assoc : (a b c : Bool) → ((a || b) || c) ≡ (a || (b || c))
+either-assoc true b c = refl
+either-assoc false b c = refl
 
-pub gathered-twice : (x y : ℕ) (p : Progress) → gathered y (gathered x p) ≡ gathered (bitOr x y) p
-unfolding gathered
-gathered-twice x y p =
-    ap₂ (λ (v : ℕ) (r : Bool). progress (withVaer (p .control) v) r)
-    (or-assoc (p .control .vaer) x y)
-    (any (p .recorded) (eqb x 0) (eqb y 0) ∙ ap (λ (t : Bool). p .recorded || not t) (sym (or-none x y)))
+either-comm : (a b : Bool) → (a || b) ≡ (b || a)
+either-comm true true = refl
+either-comm true false = refl
+either-comm false true = refl
+either-comm false false = refl
 
-pub gathered-none : (p : Progress) → gathered 0 p ≡ p
-unfolding gathered
-gathered-none p =
-    ap₂ (λ (v : ℕ) (r : Bool). progress (withVaer (p .control) v) r) (or-zero-r (p .control .vaer)) (or-false (p .recorded))
+-- ---- the law of what is gathered
+pub joined-assoc : (a b c : Gathered) → joined (joined a b) c ≡ joined a (joined b c)
+unfolding joined
+joined-assoc a b c = ap₂ gathered (or-assoc (a .vaer) (b .vaer) (c .vaer)) (either-assoc (a .recorded) (b .recorded) (c .recorded))
+
+pub joined-comm : (a b : Gathered) → joined a b ≡ joined b a
+unfolding joined
+joined-comm a b = ap₂ gathered (or-comm (a .vaer) (b .vaer)) (either-comm (a .recorded) (b .recorded))
+
+pub joined-nothing : (a : Gathered) → joined a nothing ≡ a
+unfolding joined
+joined-nothing a = ap₂ gathered (or-zero-r (a .vaer)) (either-comm (a .recorded) false)
+
+-- ---- what two elements add together
+pub noted-both : (x y : ℕ) → joined (noted x) (noted y) ≡ noted (bitOr x y)
+unfolding joined
+noted-both x y = ap (gathered (bitOr x y)) (at (eqb x 0) (eqb y 0) ∙ ap not (sym (or-none x y)))
+  where
+    at : (s t : Bool) → (not s || not t) ≡ not (s && t)
+    at true t = refl
+    at false t = refl
+
+pub noted-twice : (g : Gathered) (x y : ℕ) → joined (joined g (noted x)) (noted y) ≡ joined g (noted (bitOr x y))
+noted-twice g x y = joined-assoc g (noted x) (noted y) ∙ ap (joined g) (noted-both x y)
 
 -- types gather before or after the register's bit joins them
 pub notes-or : (register t u : ℕ) → bitOr (notes register t) (notes register u) ≡ notes register (bitOr t u)

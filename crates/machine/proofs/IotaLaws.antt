@@ -9,8 +9,9 @@ use native.Mathlib.Omega.{arith}
 use lib.Count.{ones}
 use borrow.Author.Tests.{lt-ltb, le-ltb}
 use Rattle.numbers.specs.Choice.{pick}
-use Rattle.numbers.specs.Bits.{bit, withoutBit, lowBits, complement, lowestOne}
-use Rattle.numbers.specs.Rising.{rising, ofOnes}
+use Rattle.numbers.specs.Bits.{bit, withoutBit}
+use Rattle.numbers.specs.Working.{lowBits, complement, lowestOne, ofOnes}
+use Rattle.numbers.specs.Rising.{rising}
 use Rattle.numbers.specs.Halves.{low}
 use Rattle.numbers.proofs.BitLaws.{digit, digit-complement, bit-counts, bit-below, none-below, one-more-below}
 use Rattle.numbers.proofs.Rising.{settles}
@@ -18,13 +19,14 @@ use Rattle.numbers.proofs.SetBits.{Walk, starts-walk, ends-walk, index-below, l
 use Rattle.numbers.proofs.Tests.{pick-true, pick-false}
 use Rattle.opcodes.specs.declared.Instruction.{Instruction}
 use Rattle.machine.specs.declared.Effect.{Effect}
+use Rattle.machine.specs.declared.Gathered.{Gathered}
 use Rattle.machine.specs.declared.Progress.{Progress}
-use Rattle.machine.specs.Kind.{kindOf, isIota}
-use Rattle.machine.specs.Run.{run, progress, withVmr, withVcr, gathered}
+use Rattle.opcodes.specs.Opcodes.{inOneStep}
+use Rattle.machine.specs.Run.{run, progress, withVmr, withVcr, nothing, noted, joined}
 use Rattle.state.specs.Elements.{matches}
 use Rattle.machine.specs.Iota.{matching, put, turned, walked, iotaStep}
-use Rattle.machine.specs.Loops.{matched, Written, wrote, iotaTurn, effected, doneFor}
-use Rattle.machine.proofs.Gather.{gathered-none}
+use Rattle.machine.specs.Working.{matched, Counted, counted, iotaTurn, effected, doneFor}
+use Rattle.machine.proofs.Gather.{joined-nothing}
 use Rattle.machine.proofs.Values.{is-matched}
 
 -- ---- the count of ones
@@ -44,12 +46,12 @@ matches-counts w vmr false i small h =
     turned false d e = ap (λ (n : ℕ). 1 - n) e
 
 -- the ones of the mask or its complement, cut at n, are the matching bits below n
-pub counted : (w vmr : ℕ) (mtf : Bool) (n : ℕ) → vmr < 2 ^ w → n ≤ w → ones (lowBits (pick mtf vmr (complement w vmr)) n) ≡ matching vmr mtf n
+pub ones-matching : (w vmr : ℕ) (mtf : Bool) (n : ℕ) → vmr < 2 ^ w → n ≤ w → ones (lowBits (pick mtf vmr (complement w vmr)) n) ≡ matching vmr mtf n
 unfolding matching
-counted w vmr mtf zero small h = none-below (pick mtf vmr (complement w vmr))
-counted w vmr mtf (suc n) small h =
+ones-matching w vmr mtf zero small h = none-below (pick mtf vmr (complement w vmr))
+ones-matching w vmr mtf (suc n) small h =
     one-more-below (pick mtf vmr (complement w vmr)) n
-    ∙ ap₂ (λ (a b : ℕ). a + b) (counted w vmr mtf n small (omega arith)) (sym (matches-counts w vmr mtf n small h))
+    ∙ ap₂ (λ (a b : ℕ). a + b) (ones-matching w vmr mtf n small (omega arith)) (sym (matches-counts w vmr mtf n small h))
 
 -- there are no more matching bits than bits
 pub matching-le : (vmr : ℕ) (mtf : Bool) (n : ℕ) → matching vmr mtf n ≤ n
@@ -63,43 +65,47 @@ matching-le vmr mtf (suc n) = one-more (matches vmr mtf n) (matching-le vmr mtf 
 
 -- what `count` makes of them
 pub counts : (vmr : ℕ) (mtf : Bool) (n m b : ℕ) → vmr < 2 ^ 64 → n ≤ 64 → m ≡ pick mtf vmr (complement 64 vmr) → b ≡ lowBits m n → ones b ≡ matching vmr mtf n
-counts vmr mtf n m b small h e f = ap ones (f ∙ ap (λ (x : ℕ). lowBits x n) e) ∙ counted 64 vmr mtf n small h
+counts vmr mtf n m b small h e f = ap ones (f ∙ ap (λ (x : ℕ). lowBits x n) e) ∙ ones-matching 64 vmr mtf n small h
+
+-- it is no larger than VLR
+pub count-short : (vmr : ℕ) (mtf : Bool) (n m b k : ℕ) → vmr < 2 ^ 64 → n ≤ 64 → m ≡ matched vmr mtf → b ≡ lowBits m n → k ≡ ones b → k ≤ 64
+count-short vmr mtf n m b k small h e f g = let c = g ∙ counts vmr mtf n m b small h e f in let l = matching-le vmr mtf n in omega arith
 
 -- ---- the walk over the ones of the mask or its complement, cut at VLR
 
 -- the walk goes on: the next element is no higher than the one that the lowest one left stands for
 abbrev pub Going : ℕ → ℕ → ℕ → List ℕ → ℕ → List ℕ → ℕ → Type 0
-Going stride vc which l₀ left l next = Walk (iotaTurn stride vc) which 64 (wrote l₀ 0) left (wrote l next) × (next ≤ lowestOne left)
+Going stride vc which l₀ left l next = Walk (iotaTurn stride vc) which 64 (counted l₀ 0) left (counted l next) × (next ≤ lowestOne left)
 
 module _ (stride vc which : ℕ) (l₀ : List ℕ) where
   pub begins : which < 2 ^ 64 → Going stride vc which l₀ which l₀ 0
-  begins h = (starts-walk (iotaTurn stride vc) which 64 (wrote l₀ 0) h, omega arith)
+  begins h = (starts-walk (iotaTurn stride vc) which 64 (counted l₀ 0) h, omega arith)
 
   module _ (left next : ℕ) (l : List ℕ) (g : Going stride vc which l₀ left l next) where
-    pub finishes : left ≡ 0 → wrote l next ≡ rising (ofOnes (iotaTurn stride vc) which) 64 (wrote l₀ 0)
-    finishes e = ends-walk (iotaTurn stride vc) which 64 (wrote l₀ 0) left (wrote l next) (g .0) e
+    pub finishes : left ≡ 0 → counted l next ≡ rising (ofOnes (iotaTurn stride vc) which) 64 (counted l₀ 0)
+    finishes e = ends-walk (iotaTurn stride vc) which 64 (counted l₀ 0) left (counted l next) (g .0) e
 
     module _ (i : ℕ) (some : 0 < left) (narrow : left < 2 ^ 64) (at : i ≡ lowestOne left) where
       pub inside : i < 64
-      inside = index-below (iotaTurn stride vc) which 64 (wrote l₀ 0) left (wrote l next) (g .0) some narrow i at
+      inside = index-below (iotaTurn stride vc) which 64 (counted l₀ 0) left (counted l next) (g .0) some narrow i at
 
       pub has-room : next < 64
       has-room = let h = inside in let k = g .1 in omega arith
 
       module _ (rest : ℕ) (others : rest ≡ withoutBit left (lowestOne left)) where
         pub fewer : rest < left
-        fewer = less-left (iotaTurn stride vc) which 64 (wrote l₀ 0) left (wrote l next) (g .0) some narrow i at rest others
+        fewer = less-left (iotaTurn stride vc) which 64 (counted l₀ 0) left (counted l next) (g .0) some narrow i at rest others
 
         pub goes : (l′ : List ℕ) → l′ ≡ put vc next (i * stride % 2 ^ 32) l → Going stride vc which l₀ rest l′ (next + 1)
         unfolding iotaTurn
         goes l′ e = (
-          turns-walk (iotaTurn stride vc) which 64 (wrote l₀ 0) left (wrote l next) (g .0) some narrow i at rest others (wrote l′ (next + 1)) (ap (λ (y : List ℕ). wrote y (next + 1)) e),
+          turns-walk (iotaTurn stride vc) which 64 (counted l₀ 0) left (counted l next) (g .0) some narrow i at rest others (counted l′ (next + 1)) (ap (λ (y : List ℕ). counted y (next + 1)) e),
           let h = rises left some narrow in let k = g .1 in rw others (omega arith),
         )
 
 module _ (vmr : ℕ) (mtf : Bool) (stride vc : ℕ) (l : List ℕ) (word : vmr < 2 ^ 64) (vlr which : ℕ) (short : vlr ≤ 64) (is : which ≡ lowBits (matched vmr mtf) vlr) where
-  abbrev after : ℕ → Written
-  after n = rising (ofOnes (iotaTurn stride vc) which) n (wrote l 0)
+  abbrev after : ℕ → Counted
+  after n = rising (ofOnes (iotaTurn stride vc) which) n (counted l 0)
 
   ones-match : (n : ℕ) → n < vlr → bit which n ≡ matches vmr mtf n
   ones-match n h = ap (λ (y : ℕ). bit y n) is ∙ bit-below (matched vmr mtf) vlr n ∙ ap (λ (t : Bool). t && bit (matched vmr mtf) n) (lt-ltb n vlr h) ∙ is-matched vmr mtf n word (omega arith)
@@ -108,42 +114,48 @@ module _ (vmr : ℕ) (mtf : Bool) (stride vc : ℕ) (l : List ℕ) (word : vmr <
   ones-past n h = ap (λ (y : ℕ). bit y n) is ∙ bit-below (matched vmr mtf) vlr n ∙ ap (λ (t : Bool). t && bit (matched vmr mtf) n) (le-ltb n vlr h)
 
   -- it is the walk over the mask
-  same-walk : (n : ℕ) → n ≤ vlr → after n ≡ wrote (walked vmr mtf stride vc n l) (matching vmr mtf n)
+  same-walk : (n : ℕ) → n ≤ vlr → after n ≡ counted (walked vmr mtf stride vc n l) (matching vmr mtf n)
   unfolding rising ofOnes iotaTurn walked turned matching
   same-walk zero h = refl
   same-walk (suc n) h =
-      ap₂ (λ (t : Bool) (s : Written). pick t (iotaTurn stride vc n s) s) (ones-match n h) (same-walk n (omega arith))
+      ap₂ (λ (t : Bool) (s : Counted). pick t (iotaTurn stride vc n s) s) (ones-match n h) (same-walk n (omega arith))
       ∙ go (matches vmr mtf n)
     where
       go : (t : Bool)
-          → pick t (wrote (put vc (matching vmr mtf n) (n * stride % 2 ^ 32) (walked vmr mtf stride vc n l)) (matching vmr mtf n + 1)) (wrote (walked vmr mtf stride vc n l) (matching vmr mtf n))
-          ≡ wrote (pick t (put vc (matching vmr mtf n) (n * stride % 2 ^ 32) (walked vmr mtf stride vc n l)) (walked vmr mtf stride vc n l)) (matching vmr mtf n + pick t 1 0)
+          → pick t (counted (put vc (matching vmr mtf n) (n * stride % 2 ^ 32) (walked vmr mtf stride vc n l)) (matching vmr mtf n + 1)) (counted (walked vmr mtf stride vc n l) (matching vmr mtf n))
+          ≡ counted (pick t (put vc (matching vmr mtf n) (n * stride % 2 ^ 32) (walked vmr mtf stride vc n l)) (walked vmr mtf stride vc n l)) (matching vmr mtf n + pick t 1 0)
       go true = refl
-      go false = ap (wrote (walked vmr mtf stride vc n l)) (omega arith)
+      go false = ap (counted (walked vmr mtf stride vc n l)) (omega arith)
 
-  pub whole-walk : (l′ : List ℕ) (next : ℕ) → wrote l′ next ≡ after 64 → l′ ≡ walked vmr mtf stride vc vlr l
+  pub whole-walk : (l′ : List ℕ) (next : ℕ) → counted l′ next ≡ after 64 → l′ ≡ walked vmr mtf stride vc vlr l
   unfolding ofOnes
   whole-walk l′ next e =
-      ap (λ (s : Written). s .elements)
+      ap (λ (s : Counted). s .elements)
       (e
-      ∙ sym (settles (ofOnes (iotaTurn stride vc) which) (after vlr) (wrote l 0) vlr 64 short (λ j h _. pick-false (bit which j) (iotaTurn stride vc j (after vlr)) (after vlr) (ones-past j h)) refl)
+      ∙ sym (settles (ofOnes (iotaTurn stride vc) which) (after vlr) (counted l 0) vlr 64 short (λ j h _. pick-false (bit which j) (iotaTurn stride vc j (after vlr)) (after vlr) (ones-past j h)) refl)
       ∙ same-walk vlr (le-refl vlr))
 
 -- ---- the step
 
 -- l′ is what the walk leaves, and the count that of the ones
 pub stepped : (ins : Instruction) (stride low-stride which bits next : ℕ) (p : Progress) (l l′ : List ℕ) (e : Effect)
-    → isIota (kindOf (ins .work)) ≡ true → p .control .vmr < 2 ^ 64 → p .control .vlr ≤ 64
+    → inOneStep ins ≡ true → p .control .vmr < 2 ^ 64 → p .control .vlr ≤ 64
     → bits ≡ lowBits (matched (p .control .vmr) (ins .mtf)) (p .control .vlr)
     → low-stride ≡ low stride
-    → wrote l′ next ≡ rising (ofOnes (iotaTurn low-stride (ins .vc .0)) bits) 64 (wrote l 0)
+    → counted l′ next ≡ rising (ofOnes (iotaTurn low-stride (ins .vc .0)) bits) 64 (counted l 0)
     → e .vmr ≡ p .control .vmr → e .vcr ≡ ones bits → e .notes ≡ 0
     → run l′ (effected e p) ≡ doneFor which ins stride (run l p)
 unfolding doneFor iotaStep
 stepped ins stride low-stride which bits next p l l′ e iota word short is s walk v c n =
-    ap (λ (k : ℕ). run l′ (gathered k (progress (withVcr (withVmr (p .control) (e .vmr)) (e .vcr)) (p .recorded)))) n
-    ∙ ap₂ (λ (a b : ℕ). run l′ (gathered 0 (progress (withVcr (withVmr (p .control) a) b) (p .recorded)))) v (c ∙ counts (p .control .vmr) (ins .mtf) (p .control .vlr) (matched (p .control .vmr) (ins .mtf)) bits word short refl is)
-    ∙ ap (run l′) (gathered-none (progress (withVcr (p .control) (matching (p .control .vmr) (ins .mtf) (p .control .vlr))) (p .recorded)))
-    ∙ ap (λ (y : List ℕ). run y (progress (withVcr (p .control) (matching (p .control .vmr) (ins .mtf) (p .control .vlr))) (p .recorded)))
-    (whole-walk (p .control .vmr) (ins .mtf) low-stride (ins .vc .0) l word (p .control .vlr) bits short is l′ next walk ∙ ap (λ (t : ℕ). walked (p .control .vmr) (ins .mtf) t (ins .vc .0) (p .control .vlr) l) s)
-    ∙ sym (pick-true (isIota (kindOf (ins .work))) _ _ iota)
+    ap (λ (k : ℕ). run l′ (progress (withVcr (withVmr (p .control) (e .vmr)) (e .vcr)) (joined (p .gathered) (noted k)))) n
+    ∙ ap₂ (λ (a b : ℕ). run l′ (progress (withVcr (withVmr (p .control) a) b) (joined (p .gathered) nothing))) v (c ∙ count)
+    ∙ ap₂ (λ (y : List ℕ) (g : Gathered). run y (progress (withVcr (p .control) (matching (p .control .vmr) (ins .mtf) (p .control .vlr))) g)) left (joined-nothing (p .gathered))
+    ∙ sym (pick-true (inOneStep ins) _ _ iota)
+  where
+    count : ones bits ≡ matching (p .control .vmr) (ins .mtf) (p .control .vlr)
+    count = counts (p .control .vmr) (ins .mtf) (p .control .vlr) (matched (p .control .vmr) (ins .mtf)) bits word short refl is
+
+    left : l′ ≡ walked (p .control .vmr) (ins .mtf) (low stride) (ins .vc .0) (p .control .vlr) l
+    left =
+        whole-walk (p .control .vmr) (ins .mtf) low-stride (ins .vc .0) l word (p .control .vlr) bits short is l′ next walk
+        ∙ ap (λ (t : ℕ). walked (p .control .vmr) (ins .mtf) t (ins .vc .0) (p .control .vlr) l) s

@@ -1,75 +1,59 @@
--- The loops over elements, turn by turn. Assumes nothing.
+-- The loops over elements, turn by turn, and the loops of each work against the instruction's own. Assumes nothing.
 use mathlib.Core.Path.{_≡_, refl, sym, ap, ap₂, _∙_}
-use mathlib.Core.Bool.{Bool, true, false}
-use Prim.Native.Nat.{ℕ, _+_, _-_, _/_, _%_, _^_, _≤_}
+use mathlib.Core.Bool.{Bool, true, false, not}
+use mathlib.Core.List.{[], _∷_}
+use Prim.Native.Nat.{ℕ, _+_, _-_, _/_, _%_, _^_, _<_, _≤_}
 use native.Mathlib.Nat.{div-one}
+use borrow.Author.Tests.{ne-eqb}
 use lib.Dec.{eqb}
 use lib.Pow.{shr-shr}
-use Rattle.numbers.specs.Bits.{bit, lowBits}
-use Rattle.numbers.specs.Rising.{rising, ofOnes}
+use Rattle.numbers.specs.Choice.{pick}
+use Rattle.numbers.specs.Bits.{bit}
+use Rattle.numbers.specs.Working.{lowBits, ofOnes}
+use Rattle.numbers.specs.Rising.{rising}
 use Rattle.numbers.proofs.SetBits.{ones-alike, all-below}
-use Rattle.element.specs.declared.Out.{Out}
-use Rattle.element.specs.Receives.{resultOf}
-use Rattle.element.specs.Groups.{coded, shortWork}
-use Rattle.element.proofs.Codes.{NoneOf, valueNumbers, is-idle}
-use Rattle.machine.specs.Loops.{operandAt, Lanes, landed, laneGiven, laneWorked, laneRegister, laneStep, oneAt, shortAt, convertAt, workAt}
 use Rattle.state.specs.Elements.{at}
-
-module _ (w : ℕ → ℕ → ℕ → ℕ → Out) (scalar : Bool) (x va vb vc : ℕ) where
-  -- the work of element i of the first operand, as it was fetched
-  pub works : (i a : ℕ) (s s′ : Lanes) → a ≡ operandAt scalar x va (s .elements) i → s′ ≡ laneWorked w a vb vc i s → s′ ≡ laneStep w scalar x va vb vc i s
-  unfolding laneStep
-  works i a s s′ e f = f ∙ ap (λ (y : ℕ). laneWorked w y vb vc i s) e
-
-  -- works that are alike
-  module _ (v : ℕ → ℕ → ℕ → ℕ → Out) (same : (i a b c : ℕ) → w i a b c ≡ v i a b c) where
-    like : (i : ℕ) (s : Lanes) → laneStep w scalar x va vb vc i s ≡ laneStep v scalar x va vb vc i s
-    unfolding laneStep laneGiven laneWorked
-    like i s = ap (landed vc i s) (same i (operandAt scalar x va (s .elements) i) (at (s .elements) vb i) (at (s .elements) vc i))
-
-    by-set : (which : ℕ) (s₀ s : Lanes) → s ≡ rising (ofOnes (laneStep w scalar x va vb vc) which) 64 s₀ → s ≡ rising (ofOnes (laneStep v scalar x va vb vc) which) 64 s₀
-    by-set which s₀ s e = e ∙ ones-alike (laneStep w scalar x va vb vc) (laneStep v scalar x va vb vc) which 64 s₀ (λ i y _. like i y)
-
-    by-length : (n which : ℕ) (s₀ s : Lanes) → n ≤ 64 → which ≡ lowBits (2 ^ 64 - 1) n → s ≡ rising (laneStep w scalar x va vb vc) n s₀
-        → s ≡ rising (ofOnes (laneStep v scalar x va vb vc) which) 64 s₀
-    by-length n which s₀ s h e f = by-set which s₀ s (f ∙ all-below (laneStep w scalar x va vb vc) s₀ n which h e)
-
--- the first operand by its form: the loop of a scalar, and that of a register
-module _ (w : ℕ → ℕ → ℕ → ℕ → Out) (x va vb vc which : ℕ) (s₀ s : Lanes) where
-  pub by-scalar : s ≡ rising (ofOnes (laneWorked w x vb vc) which) 64 s₀ → s ≡ rising (ofOnes (laneStep w true x va vb vc) which) 64 s₀
-  unfolding laneStep
-  by-scalar e = e ∙ ones-alike (laneWorked w x vb vc) (laneStep w true x va vb vc) which 64 s₀ (λ i y _. refl)
-
-  pub by-register : s ≡ rising (ofOnes (laneRegister w va vb vc) which) 64 s₀ → s ≡ rising (ofOnes (laneStep w false x va vb vc) which) 64 s₀
-  unfolding laneStep laneRegister
-  by-register e = e ∙ ones-alike (laneRegister w va vb vc) (laneStep w false x va vb vc) which 64 s₀ (λ i y _. refl)
+use Rattle.opcodes.specs.declared.Instruction.{Instruction}
+use Rattle.opcodes.specs.Works.{Work, reads, rowOf}
+use Rattle.opcodes.specs.Working.{named, inTable, isLaneWork}
+use Rattle.opcodes.specs.Opcodes.{workAt, rowAt}
+use Rattle.opcodes.specs.ControlWord.{fieldBy}
+use Rattle.element.specs.declared.Out.{Out}
+use Rattle.opcodes.proofs.Test.{told, NoneOf, only-left, each-named}
+use Rattle.element.specs.Receives.{resultOf}
+use Rattle.element.specs.Working.{isShort}
+use Rattle.machine.specs.Working.{operandAt, Lanes, landed, lane, laneOf, laneIn, plainly, shortLane, converting}
 
 -- what element i receives of its operands, as they were fetched
-module _ (w : ℕ → ℕ → ℕ → ℕ → Out) (vb vc i a : ℕ) (s s′ : Lanes) where
-  pub lands : (b c : ℕ) (o : Out) → b ≡ at (s .elements) vb i → c ≡ at (s .elements) vc i → o ≡ w i a b c → s′ ≡ landed vc i s o → s′ ≡ laneWorked w a vb vc i s
-  unfolding laneGiven laneWorked
-  lands b c o hb hc ho e = e ∙ ap (landed vc i s) ho ∙ ap₂ (λ (y z : ℕ). landed vc i s (w i a y z)) hb hc
+pub lands : (w : ℕ → ℕ → ℕ → Out) (ins : Instruction) (a i : ℕ) (s s′ : Lanes) (b c : ℕ) (o : Out)
+    → b ≡ at (s .elements) (ins .vb .0) i → c ≡ at (s .elements) (ins .vc .0) i → o ≡ w a b c → s′ ≡ landed (ins .vc .0) i s o → s′ ≡ laneOf w ins a i s
+unfolding laneOf
+lands w ins a i s s′ b c o hb hc ho e = e ∙ ap (landed (ins .vc .0) i s) ho ∙ ap₂ (λ (y z : ℕ). landed (ins .vc .0) i s (w a y z)) hb hc
 
-  pub of-given : (b : ℕ) → b ≡ at (s .elements) vb i → s′ ≡ laneGiven w a b vc i s → s′ ≡ laneWorked w a vb vc i s
-  unfolding laneWorked
-  of-given b hb e = e ∙ ap (λ (y : ℕ). laneGiven w a y vc i s) hb
-
-  pub of-register : (va : ℕ) → a ≡ at (s .elements) va i → s′ ≡ laneWorked w a vb vc i s → s′ ≡ laneRegister w va vb vc i s
-  unfolding laneRegister
-  of-register va ha e = e ∙ ap (λ (y : ℕ). laneWorked w y vb vc i s) ha
-
-module _ (w : ℕ → ℕ → ℕ → ℕ → Out) (a b vc i : ℕ) (s s′ : Lanes) where
-  pub lands-given : (c : ℕ) (o : Out) → c ≡ at (s .elements) vc i → o ≡ w i a b c → s′ ≡ landed vc i s o → s′ ≡ laneGiven w a b vc i s
-  unfolding laneGiven
-  lands-given c o hc ho e = e ∙ ap (landed vc i s) (ho ∙ ap (w i a b) hc)
+-- of the first operand, as it was fetched
+pub takes : (w : ℕ → ℕ → ℕ → Out) (scalar : Bool) (ins : Instruction) (x i a : ℕ) (s s′ : Lanes)
+    → a ≡ operandAt scalar x (ins .va .0) (s .elements) i → s′ ≡ laneOf w ins a i s → s′ ≡ laneIn scalar w ins x i s
+unfolding laneIn
+takes w scalar ins x i a s s′ e f = f ∙ ap (λ (y : ℕ). laneOf w ins y i s) e
 
 -- a short work of one element, where matches says that its mask bit is MTF
-module _ (code : ℕ) (exc : Bool) (mask : ℕ) (scalar : Bool) (x va vb vc i a : ℕ) (matches : Bool) (s s′ : Lanes) where
-  pub short-works : matches ≡ bit mask i → a ≡ operandAt scalar x va (s .elements) i → s′ ≡ laneWorked (oneAt code exc matches) a vb vc i s → s′ ≡ laneStep (shortAt code exc mask) scalar x va vb vc i s
-  unfolding laneGiven laneWorked
-  short-works m e f =
-      works (shortAt code exc mask) scalar x va vb vc i a s s′ e
-      (f ∙ ap (λ (t : Bool). landed vc i s (resultOf (shortWork code) exc 0 t a (at (s .elements) vb i) (at (s .elements) vc i))) m)
+pub short-takes : (work : ℕ) (exc : Bool) (mask : ℕ) (ins : Instruction) (x i a : ℕ) (matches : Bool) (s s′ : Lanes) → matches ≡ bit mask i
+    → a ≡ operandAt (ins .scalar) x (ins .va .0) (s .elements) i → s′ ≡ laneOf (plainly (workAt work) exc matches) ins a i s → s′ ≡ shortLane work exc mask ins x i s
+unfolding laneIn
+short-takes work exc mask ins x i a matches s s′ m e f =
+    f ∙ ap₂ (λ (t : Bool) (y : ℕ). laneOf (plainly (workAt work) exc t) ins y i s) m e
+
+-- the loop with a scalar, and that with a register, by the form
+module _ (w : ℕ → ℕ → ℕ → Out) (ins : Instruction) (x which : ℕ) (s₀ s : Lanes) (form : Bool) where
+  pub by-scalar : form ≡ true → s ≡ rising (ofOnes (laneIn true w ins x) which) 64 s₀ → s ≡ rising (ofOnes (laneIn form w ins x) which) 64 s₀
+  by-scalar e f = f ∙ ap (λ (t : Bool). rising (ofOnes (laneIn t w ins x) which) 64 s₀) (sym e)
+
+  pub by-register : form ≡ false → s ≡ rising (ofOnes (laneIn false w ins 0) which) 64 s₀ → s ≡ rising (ofOnes (laneIn form w ins x) which) 64 s₀
+  unfolding laneIn
+  by-register e f =
+      f
+      ∙ ones-alike (laneIn false w ins 0) (laneIn false w ins x) which 64 s₀ (λ i y _. refl)
+      ∙ ap (λ (t : Bool). rising (ofOnes (laneIn t w ins x) which) 64 s₀) (sym e)
 
 -- the mask, halved at each element
 pub unhalved : (mask : ℕ) → mask ≡ mask / 2 ^ 0
@@ -82,30 +66,135 @@ module _ (mask left i : ℕ) (e : left ≡ mask / 2 ^ i) where
   pub halved : left / 2 ≡ mask / 2 ^ (i + 1)
   halved = ap (λ (y : ℕ). y / 2) e ∙ shr-shr mask i 1
 
--- the loops by the work's number: a short work, where the number is a constant, and any other
-module _ (code : ℕ) (exc : Bool) (field mask : ℕ) (scalar : Bool) (x va vb vc which : ℕ) (s₀ s : Lanes) where
-  abbrev Made : Type 0
-  Made = s ≡ rising (ofOnes (laneStep (workAt code exc field mask) scalar x va vb vc) which) 64 s₀
+-- element i, as its step would have it for the work of number n
+abbrev outOf : ℕ → Instruction → ℕ → ℕ → ℕ → Lanes → Out
+outOf n ins x mask i s =
+    resultOf (workAt n) (ins .exc) (fieldBy (rowAt n .holds) ins) (pick (not (rowAt n .obeysMoe)) (bit mask i) false)
+    (pick (ins .scalar) x (pick (reads (rowAt n .va) (ins .scalar)) (at (s .elements) (ins .va .0) i) 0))
+    (pick (reads (rowAt n .vb) (ins .scalar)) (at (s .elements) (ins .vb .0) i) 0)
+    (at (s .elements) (ins .vc .0) i)
 
-  abbrev IsShort : Type 0
-  IsShort = (m : Bool) (a b c : ℕ) → resultOf (shortWork code) exc 0 m a b c ≡ resultOf (coded code) exc field m a b c
+-- a work that takes its registers as most do: Va in the vector form, Vb, and nothing else of the control word
+module _ (k : ℕ) (ins : Instruction) (work : ins .work ≡ k) (field : fieldBy (rowAt k .holds) ins ≡ 0)
+    (va : (s : Bool) → reads (rowAt k .va) s ≡ not s) (vb : (s : Bool) → reads (rowAt k .vb) s ≡ true) (x mask : ℕ)
+    (w : ℕ → ℕ → ℕ → ℕ → Out)
+    (does : (i a b c : ℕ) → w i a b c ≡ resultOf (workAt k) (ins .exc) 0 (pick (not (rowAt k .obeysMoe)) (bit mask i) false) a b c)
+  where
+    plain-lane : (i : ℕ) (s : Lanes) → laneIn (ins .scalar) (w i) ins x i s ≡ lane ins x mask i s
+    unfolding lane laneOf laneIn
+    plain-lane i s =
+        ap (landed (ins .vc .0) i s)
+        (does i (operandAt (ins .scalar) x (ins .va .0) (s .elements) i) b (at (s .elements) (ins .vc .0) i)
+        ∙ ap₂ (λ (f y : ℕ). of f y b) (sym field) (form (ins .scalar) a)
+        ∙ ap₂ (λ (t u : Bool). of (fieldBy (rowAt k .holds) ins) (pick (ins .scalar) x (pick t a 0)) (pick u b 0)) (sym (va (ins .scalar))) (sym (vb (ins .scalar)))
+        ∙ ap (λ (n : ℕ). outOf n ins x mask i s) (sym work))
+      where
+        a : ℕ
+        a = at (s .elements) (ins .va .0) i
 
-  pub short-every : (n : ℕ) → s ≡ rising (laneStep (shortAt code exc mask) scalar x va vb vc) n s₀ → n ≤ 64 → which ≡ lowBits (2 ^ 64 - 1) n → IsShort → Made
-  short-every n e h q same = by-length (shortAt code exc mask) scalar x va vb vc (workAt code exc field mask) (λ i a b c. same (bit mask i) a b c) n which s₀ s h q e
+        b : ℕ
+        b = at (s .elements) (ins .vb .0) i
 
-  pub short-chosen : s ≡ rising (ofOnes (laneStep (shortAt code exc mask) scalar x va vb vc) which) 64 s₀ → IsShort → Made
-  short-chosen e same = by-set (shortAt code exc mask) scalar x va vb vc (workAt code exc field mask) (λ i a b c. same (bit mask i) a b c) which s₀ s e
+        of : ℕ → ℕ → ℕ → Out
+        of f y z = resultOf (workAt k) (ins .exc) f (pick (not (rowAt k .obeysMoe)) (bit mask i) false) y z (at (s .elements) (ins .vc .0) i)
 
-  -- a floating work, where the number is a constant
-  pub floating-chosen : (w : ℕ → ℕ → ℕ → ℕ → Out) → s ≡ rising (ofOnes (laneStep w scalar x va vb vc) which) 64 s₀ → ((i a b c : ℕ) → w i a b c ≡ workAt code exc field mask i a b c) → Made
-  floating-chosen w e same = by-set w scalar x va vb vc (workAt code exc field mask) same which s₀ s e
+        form : (t : Bool) (y : ℕ) → pick t x y ≡ pick t x (pick (not t) y 0)
+        form true y = refl
+        form false y = refl
 
-  -- what is neither, nor a compare or convert
-  pub idle-chosen : s ≡ rising (ofOnes (laneStep (shortAt code exc mask) scalar x va vb vc) which) 64 s₀ → NoneOf code valueNumbers → (code ≡ 4 → ⊥) → (code ≡ 13 → ⊥) → Made
-  idle-chosen e r f g = short-chosen e (λ m a b c. is-idle code r f g exc field m a b c)
+-- so takes a work of number k, as its row says; and one that obeys MOE does not look at the mask bit
+pub record Plainly (k : ℕ) (ins : Instruction) : Type 0 where
+  pub field : fieldBy (rowAt k .holds) ins ≡ 0
+  pub va : (s : Bool) → reads (rowAt k .va) s ≡ not s
+  pub vb : (s : Bool) → reads (rowAt k .vb) s ≡ true
+  pub bit : (exc m : Bool) (a b c : ℕ) → resultOf (workAt k) exc 0 m a b c ≡ resultOf (workAt k) exc 0 (pick (not (rowAt k .obeysMoe)) m false) a b c
+
+short-plainly : (k : ℕ) → isShort k ≡ true → (ins : Instruction) → Plainly k ins
+unfolding resultOf workAt rowAt rowOf
+short-plainly k is ins =
+    each-named (λ (n : ℕ). Plainly n ins) (16 ∷ 9 ∷ 8 ∷ 7 ∷ 6 ∷ 5 ∷ 3 ∷ 2 ∷ 1 ∷ []) (
+      record { field = refl; va = λ s. refl; vb = λ s. refl; bit = λ e m a b c. refl },
+      (
+        record { field = refl; va = λ s. refl; vb = λ s. refl; bit = λ e m a b c. refl },
+        (
+          record { field = refl; va = λ s. refl; vb = λ s. refl; bit = λ e m a b c. refl },
+          (
+            record { field = refl; va = λ s. refl; vb = λ s. refl; bit = λ e m a b c. refl },
+            (
+              record { field = refl; va = λ s. refl; vb = λ s. refl; bit = λ e m a b c. refl },
+              (
+                record { field = refl; va = λ s. refl; vb = λ s. refl; bit = λ e m a b c. refl },
+                (
+                  record { field = refl; va = λ s. refl; vb = λ s. refl; bit = λ e m a b c. refl },
+                  (
+                    record { field = refl; va = λ s. refl; vb = λ s. refl; bit = λ e m a b c. refl },
+                    (record { field = refl; va = λ s. refl; vb = λ s. refl; bit = λ e m a b c. refl }, tt),
+                  ),
+                ),
+              ),
+            ),
+          ),
+        ),
+      ),
+    )
+    k is
 
 -- convert, which has no first operand
-pub convert-chosen : (exc : Bool) (field mask : ℕ) (scalar : Bool) (x va vb vc which : ℕ) (s₀ s : Lanes) → s ≡ rising (ofOnes (laneWorked (convertAt exc field) 0 vb vc) which) 64 s₀
-    → s ≡ rising (ofOnes (laneStep (workAt 14 exc field mask) scalar x va vb vc) which) 64 s₀
-unfolding laneStep laneGiven laneWorked resultOf coded
-convert-chosen exc field mask scalar x va vb vc which s₀ s e = e ∙ ones-alike (laneWorked (convertAt exc field) 0 vb vc) (laneStep (workAt 14 exc field mask) scalar x va vb vc) which 64 s₀ (λ i y _. refl)
+convert-lane : (ins : Instruction) (x mask i : ℕ) (s : Lanes) → ins .work ≡ 14 → laneOf (converting (ins .exc) (ins .va .0)) ins 0 i s ≡ lane ins x mask i s
+unfolding lane laneOf resultOf workAt rowAt rowOf
+convert-lane ins x mask i s e = ap (λ (n : ℕ). landed (ins .vc .0) i s (outOf n ins x mask i s)) (sym e)
+
+-- what is neither 5 nor 4 is converted as 1 is
+other-conversion : (exc : Bool) (conversion a b c : ℕ) → (conversion ≡ 5 → ⊥) → (conversion ≡ 4 → ⊥) → converting exc 1 a b c ≡ converting exc conversion a b c
+unfolding resultOf
+other-conversion exc conversion a b c f g = rw (ne-eqb conversion 5 f, ne-eqb conversion 4 g) refl
+
+pub converts-as : (ins : Instruction) (which : ℕ) (s₀ s : Lanes) (k : ℕ) → ins .va .0 ≡ k
+    → s ≡ rising (ofOnes (laneOf (converting (ins .exc) k) ins 0) which) 64 s₀ → s ≡ rising (ofOnes (laneOf (converting (ins .exc) (ins .va .0)) ins 0) which) 64 s₀
+converts-as ins which s₀ s k e f = f ∙ ap (λ (j : ℕ). rising (ofOnes (laneOf (converting (ins .exc) j) ins 0) which) 64 s₀) (sym e)
+
+pub others : (ins : Instruction) (which : ℕ) (s₀ : Lanes) (conversion : ℕ) → (conversion ≡ 5 → ⊥) → (conversion ≡ 4 → ⊥)
+    → rising (ofOnes (laneOf (converting (ins .exc) 1) ins 0) which) 64 s₀ ≡ rising (ofOnes (laneOf (converting (ins .exc) conversion) ins 0) which) 64 s₀
+unfolding laneOf
+others ins which s₀ conversion f g =
+    ones-alike (laneOf (converting (ins .exc) 1) ins 0) (laneOf (converting (ins .exc) conversion) ins 0) which 64 s₀
+    (λ i y _. ap (landed (ins .vc .0) i y) (other-conversion (ins .exc) conversion 0 (at (y .elements) (ins .vb .0) i) (at (y .elements) (ins .vc .0) i) f g))
+
+-- ---- a loop by the work's number, which is a constant, against the instruction's own
+module _ (ins : Instruction) (x mask which : ℕ) (s₀ s : Lanes) where
+  abbrev Made : Type 0
+  Made = s ≡ rising (ofOnes (lane ins x mask) which) 64 s₀
+
+  by-set : (turn : ℕ → Lanes → Lanes) → ((i : ℕ) (y : Lanes) → turn i y ≡ lane ins x mask i y) → s ≡ rising (ofOnes turn which) 64 s₀ → Made
+  by-set turn same e = e ∙ ones-alike turn (lane ins x mask) which 64 s₀ (λ i y _. same i y)
+
+  -- a short work
+  module _ (k : ℕ) (is : isShort k ≡ true) (work : ins .work ≡ k) where
+    same-short : (i : ℕ) (y : Lanes) → shortLane k (ins .exc) mask ins x i y ≡ lane ins x mask i y
+    same-short =
+        let p = short-plainly k is ins in
+        plain-lane k ins work (p .field) (p .va) (p .vb) x mask (λ i. plainly (workAt k) (ins .exc) (bit mask i)) (λ i. p .bit (ins .exc) (bit mask i))
+
+    pub short-set : s ≡ rising (ofOnes (shortLane k (ins .exc) mask ins x) which) 64 s₀ → Made
+    short-set = by-set (shortLane k (ins .exc) mask ins x) same-short
+
+    pub short-all : (n : ℕ) → n ≤ 64 → which ≡ lowBits (2 ^ 64 - 1) n → s ≡ rising (shortLane k (ins .exc) mask ins x) n s₀ → Made
+    short-all n h q e = short-set (e ∙ all-below (shortLane k (ins .exc) mask ins x) s₀ n which h q)
+
+  -- a floating work, of two operands
+  pub floating-set : (k : ℕ) (w : Work) → Plainly k ins → w ≡ workAt k → rowAt k .obeysMoe ≡ true → ins .work ≡ k
+      → s ≡ rising (ofOnes (laneIn (ins .scalar) (plainly w (ins .exc) false) ins x) which) 64 s₀ → Made
+  floating-set k w p is obeys work =
+      by-set (laneIn (ins .scalar) (plainly w (ins .exc) false) ins x)
+      (plain-lane k ins work (p .field) (p .va) (p .vb) x mask (λ i. plainly w (ins .exc) false)
+      (λ i a b c. ap₂ (λ (v : Work) (t : Bool). resultOf v (ins .exc) 0 (pick (not t) (bit mask i) false) a b c) is (sym obeys)))
+
+  pub convert-set : ins .work ≡ 14 → s ≡ rising (ofOnes (laneOf (converting (ins .exc) (ins .va .0)) ins 0) which) 64 s₀ → Made
+  convert-set work = by-set (laneOf (converting (ins .exc) (ins .va .0)) ins 0) (λ i y. convert-lane ins x mask i y work)
+
+-- of the works that write elements, each by itself, merge is the only one that is none of these
+pub merge-left : (n : ℕ) → n < 256 → isLaneWork n ≡ true → NoneOf n (14 ∷ 21 ∷ 12 ∷ 11 ∷ 10 ∷ 9 ∷ 8 ∷ 7 ∷ 6 ∷ 5 ∷ 3 ∷ 2 ∷ 1 ∷ []) → n ≡ 16
+unfolding rowAt rowOf workAt inTable
+merge-left n h e =
+    only-left 16 (14 ∷ 21 ∷ 12 ∷ 11 ∷ 10 ∷ 9 ∷ 8 ∷ 7 ∷ 6 ∷ 5 ∷ 3 ∷ 2 ∷ 1 ∷ []) n
+    (told (named (16 ∷ 14 ∷ 21 ∷ 12 ∷ 11 ∷ 10 ∷ 9 ∷ 8 ∷ 7 ∷ 6 ∷ 5 ∷ 3 ∷ 2 ∷ 1 ∷ [])) isLaneWork tt n h ∙ e)

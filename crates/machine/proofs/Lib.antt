@@ -1,7 +1,6 @@
 -- Laws of the machine.
 pub mod Gather
 pub mod Chosen
-pub mod WorkKinds
 pub mod LaneLoops
 pub mod Recording
 pub mod Compares

@@ -7,21 +7,22 @@ use native.Mathlib.Omega.{arith}
 use lib.Dec.{eqb}
 use lib.Bits.{bitOr}
 use Rattle.numbers.specs.Choice.{pick}
-use Rattle.numbers.specs.Bits.{withBit}
+use Rattle.state.specs.declared.Control.{Control}
 use Rattle.state.specs.State.{vaerInRange, enabled}
-use Rattle.state.proofs.Ranges.{Ranged, vaer-or, vaer-register, stopped}
+use Rattle.state.proofs.Ranges.{Ranged, vaer-or, vaer-register}
+use Rattle.state.proofs.Ranges.{stopped as stopped-status}
 use Rattle.opcodes.specs.declared.Instruction.{Instruction}
 use Rattle.element.proofs.Types.{types-in-range}
-use Rattle.machine.specs.declared.Progress.{Progress}
-use Rattle.machine.specs.Kind.{kindOf, isCompare, isIota}
-use Rattle.machine.specs.Run.{Run, withVpsr, gathered, ended}
+use Rattle.opcodes.specs.Opcodes.{workAt, writesMask, inOneStep}
+use Rattle.machine.specs.Run.{Run, withVaer, stopped, joined, ended}
 use Rattle.machine.specs.Step.{operated, received, registerBit, notes, written, worked, elementStep}
 use Rattle.machine.specs.Iota.{iotaStep}
 use Rattle.machine.specs.Instruction.{stepOf, stepsBelow, stepCount, wholeOf}
 use Rattle.machine.proofs.IotaLaws.{matching-le}
 
-abbrev pub InRange : Run → Type 0
-InRange r = Ranged (r .progress .control)
+pub record InRange (r : Run) : Type 0 where
+  pub control : Ranged (r .progress .control)
+  pub gathered : vaerInRange (r .progress .gathered .vaer) ≡ true
 
 either : (t : Bool) (a b : Run) → InRange a → InRange b → InRange (pick t a b)
 either true a b x y = x
@@ -40,32 +41,37 @@ notes-ranged compare vc t h e = go (eqb t 0)
     go true = refl
     go false = vaer-or t (registerBit compare vc) e (of compare)
 
-gathered-ranged : (n : ℕ) (p : Progress) → vaerInRange n ≡ true → Ranged (p .control) → Ranged (gathered n p .control)
-unfolding gathered
-gathered-ranged n p e r = record { vlr = r .vlr; vcr = r .vcr; vaer = vaer-or (p .control .vaer) n (r .vaer) e; vpsr = r .vpsr }
-
 module _ (ins : Instruction) (scalar : ℕ) (vc : ins .vc .0 < 16) where
   written-ranged : (i value : ℕ) (r : Run) → InRange r → InRange (written ins i value r)
   unfolding written
-  written-ranged i value r g = either (isCompare (kindOf (ins .work))) _ _ (record { vlr = g .vlr; vcr = g .vcr; vaer = g .vaer; vpsr = g .vpsr }) g
+  written-ranged i value r g =
+      let c = g .control in
+      either (writesMask ins) _ _ (record { control = record { vlr = c .vlr; vcr = c .vcr; vaer = c .vaer; vpsr = c .vpsr }; gathered = g .gathered }) (record { control = c; gathered = g .gathered })
 
   worked-ranged : (i : ℕ) (r : Run) → InRange r → InRange (worked ins scalar i r)
-  unfolding worked received
+  unfolding worked received joined
   worked-ranged i r g =
-      gathered-ranged _ _ (notes-ranged (isCompare (kindOf (ins .work))) (ins .vc .0) _ vc (types-in-range (ins .work) (ins .exc) _ _ _ _ _))
-      (written-ranged i _ r g)
+      let o = received ins scalar i r in
+      let w = written-ranged i (o .value) r g in
+      let t : vaerInRange (o .types) ≡ true = types-in-range (workAt (ins .work)) (ins .exc) _ _ _ _ _ in
+      let n = notes (registerBit (writesMask ins) (ins .vc .0)) (o .types) in
+      record {
+        control = w .control;
+        gathered = vaer-or (written ins i (o .value) r .progress .gathered .vaer) n (w .gathered) (notes-ranged (writesMask ins) (ins .vc .0) (o .types) vc t);
+      }
 
   iota-ranged : (r : Run) → InRange r → InRange (iotaStep ins scalar r)
   unfolding iotaStep
   iota-ranged r g =
       let m = matching-le (r .progress .control .vmr) (ins .mtf) (r .progress .control .vlr) in
-      let v = g .vlr in
-      record { vlr = g .vlr; vcr = omega arith; vaer = g .vaer; vpsr = g .vpsr }
+      let c = g .control in
+      let v = c .vlr in
+      record { control = record { vlr = c .vlr; vcr = omega arith; vaer = c .vaer; vpsr = c .vpsr }; gathered = g .gathered }
 
   pub step-ranged : (i : ℕ) (r : Run) → InRange r → InRange (stepOf ins scalar i r)
   unfolding stepOf elementStep
   step-ranged i r g =
-      either (isIota (kindOf (ins .work))) _ _ (iota-ranged r g)
+      either (inOneStep ins) _ _ (iota-ranged r g)
       (either (operated ins (r .progress .control) i) _ _ (worked-ranged i r g) g)
 
   below-ranged : (n : ℕ) (r : Run) → InRange r → InRange (stepsBelow n ins scalar r)
@@ -78,17 +84,21 @@ module _ (ins : Instruction) (scalar : ℕ) (vc : ins .vc .0 < 16) where
   whole-ranged r g = below-ranged (stepCount ins (r .progress .control .vlr)) r g
 
 -- ---- the end of a run
-module _ (p : Progress) (g : Ranged (p .control)) where
-  pub ended-ranged : Ranged (ended p)
-  unfolding ended
-  ended-ranged = at (p .recorded)
-    where
-      at : (t : Bool) → Ranged (pick t (withVpsr (p .control) (withBit (withBit (p .control .vpsr) 0 0) 7 1)) (p .control))
-      at true = record { vlr = g .vlr; vcr = g .vcr; vaer = g .vaer; vpsr = rw (stopped (p .control .vpsr) (g .vpsr)) refl }
-      at false = g
+module _ (r : Run) (g : InRange r) where
+  abbrev noted : Control
+  noted = withVaer (r .progress .control) (bitOr (r .progress .control .vaer) (r .progress .gathered .vaer))
 
-  pub ended-disabled : p .recorded ≡ true → enabled (ended p) ≡ false
+  noted-ranged : Ranged noted
+  noted-ranged = let c = g .control in record { vlr = c .vlr; vcr = c .vcr; vaer = vaer-or (r .progress .control .vaer) (r .progress .gathered .vaer) (c .vaer) (g .gathered); vpsr = c .vpsr }
+
+  pub ended-ranged : Ranged (ended (r .progress))
   unfolding ended
-  ended-disabled e =
-      ap (λ (t : Bool). enabled (pick t (withVpsr (p .control) (withBit (withBit (p .control .vpsr) 0 0) 7 1)) (p .control))) e
-      ∙ ap (λ (v : ℕ). eqb (v % 2) 1) (stopped (p .control .vpsr) (g .vpsr))
+  ended-ranged = at (r .progress .gathered .recorded) noted-ranged
+    where
+      at : (t : Bool) → Ranged noted → Ranged (stopped t noted)
+      at true n = record { vlr = n .vlr; vcr = n .vcr; vaer = n .vaer; vpsr = rw (stopped-status (noted .vpsr) (n .vpsr)) refl }
+      at false n = n
+
+  pub ended-disabled : r .progress .gathered .recorded ≡ true → enabled (ended (r .progress)) ≡ false
+  unfolding ended
+  ended-disabled e = ap (λ (t : Bool). enabled (stopped t noted)) e ∙ ap (λ (v : ℕ). eqb (v % 2) 1) (stopped-status (noted .vpsr) (noted-ranged .vpsr))

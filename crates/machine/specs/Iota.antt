@@ -32,4 +32,4 @@ walked vmr mtf stride vc (suc n) l = turned vmr mtf stride vc n (matching vmr mt
 unfoldable pub iotaStep : Instruction → ℕ → Run → Run
 iotaStep ins stride r =
     run (walked (r .progress .control .vmr) (ins .mtf) (low stride) (ins .vc .0) (r .progress .control .vlr) (r .elements))
-    (progress (withVcr (r .progress .control) (matching (r .progress .control .vmr) (ins .mtf) (r .progress .control .vlr))) (r .progress .recorded))
+    (progress (withVcr (r .progress .control) (matching (r .progress .control .vmr) (ins .mtf) (r .progress .control .vlr))) (r .progress .gathered))

@@ -1,7 +1,6 @@
 -- Register instructions: steps, whole instructions, and their end.
-pub mod Kind
 pub mod Run
 pub mod Step
 pub mod Iota
 pub mod Instruction
-pub mod Loops
+pub mod Working

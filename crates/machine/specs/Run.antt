@@ -8,9 +8,21 @@ use Rattle.numbers.specs.Choice.{pick}
 use Rattle.numbers.specs.Bits.{withBit}
 use Rattle.state.specs.declared.Control.{Control}
 use Rattle.state.specs.State.{State, state}
+use Rattle.machine.specs.declared.Gathered.{Gathered}
 use Rattle.machine.specs.declared.Progress.{Progress}
 
--- the elements, and the control record with that bit
+-- ---- what a run gathers, by or: the bits that VAER gets, and that one bit
+abbrev pub nothing : Gathered
+nothing = record { vaer = 0; recorded = false }
+
+-- what one element adds, where VAER gets these bits
+abbrev pub noted : ℕ → Gathered
+noted notes = record { vaer = notes; recorded = not (eqb notes 0) }
+
+unfoldable pub joined : Gathered → Gathered → Gathered
+joined a b = record { vaer = bitOr (a .vaer) (b .vaer); recorded = a .recorded || b .recorded }
+
+-- ---- the elements, the control record, and what was gathered so far
 pub record Run : Type 0 where
   pub elements : List ℕ
   pub progress : Progress
@@ -18,12 +30,12 @@ pub record Run : Type 0 where
 abbrev pub run : List ℕ → Progress → Run
 run l p = record { elements = l; progress = p }
 
-abbrev pub progress : Control → Bool → Progress
-progress c recorded = record { control = c; recorded = recorded }
+abbrev pub progress : Control → Gathered → Progress
+progress c g = record { control = c; gathered = g }
 
--- clear at the start
+-- nothing at the start
 abbrev pub begun : State → Run
-begun s = run (s .elements) (progress (s .control) false)
+begun s = run (s .elements) (progress (s .control) nothing)
 
 abbrev pub withVmr : Control → ℕ → Control
 withVmr c v = record { vlr = c .vlr; vmr = v; vcr = c .vcr; vaer = c .vaer; vpsr = c .vpsr }
@@ -37,13 +49,13 @@ withVaer c v = record { vlr = c .vlr; vmr = c .vmr; vcr = c .vcr; vaer = v; vpsr
 abbrev pub withVpsr : Control → ℕ → Control
 withVpsr c v = record { vlr = c .vlr; vmr = c .vmr; vcr = c .vcr; vaer = c .vaer; vpsr = v }
 
--- VAER and the bit beside the state gather what is recorded, by or
-unfoldable pub gathered : ℕ → Progress → Progress
-gathered notes p = progress (withVaer (p .control) (bitOr (p .control .vaer) notes)) (p .recorded || not (eqb notes 0))
+-- Only now, if anything was recorded, VEN is cleared and AEX set. VAER gets its bits along the way: nothing within a run reads it and or is bound to no
+-- order, so what was gathered joins it here, once.
+abbrev pub stopped : Bool → Control → Control
+stopped recorded c = pick recorded (withVpsr c (withBit (withBit (c .vpsr) 0 0) 7 1)) c
 
--- at the end, if anything was recorded: VEN is cleared and AEX set
 unfoldable pub ended : Progress → Control
-ended p = pick (p .recorded) (withVpsr (p .control) (withBit (withBit (p .control .vpsr) 0 0) 7 1)) (p .control)
+ended p = stopped (p .gathered .recorded) (withVaer (p .control) (bitOr (p .control .vaer) (p .gathered .vaer)))
 
 -- the state at the end of a run
 abbrev pub finished : Run → State

@@ -1,5 +1,5 @@
 -- Document 01, "What an element receives" and "Queues and orders": the step of one element.
-use mathlib.Core.Bool.{Bool, not, _&&_, _||_}
+use mathlib.Core.Bool.{Bool, false, not, _&&_, _||_}
 use mathlib.Core.List.{List}
 use Prim.Native.Nat.{ℕ, _+_, _%_, _^_}
 use lib.Dec.{ltb, eqb}
@@ -11,34 +11,44 @@ use Rattle.state.specs.declared.Control.{Control}
 use Rattle.state.specs.Elements.{at, matches}
 use Rattle.state.specs.State.{placeOf}
 use Rattle.opcodes.specs.declared.Instruction.{Instruction}
+use Rattle.opcodes.specs.Opcodes.{workAt, writesMask, ignoresMoe, readsVa, readsVb}
+use Rattle.opcodes.specs.ControlWord.{fieldOf}
 use Rattle.element.specs.declared.Out.{Out}
 use Rattle.element.specs.Receives.{resultOf}
-use Rattle.machine.specs.Kind.{kindOf, isCompare, isMerge}
-use Rattle.machine.specs.Run.{Run, run, progress, withVmr, gathered}
-
--- the conversion of convert, the relation of compare in <2:0>
-abbrev pub fieldOf : Instruction → ℕ
-fieldOf ins = pick (isCompare (kindOf (ins .work))) (ins .vc .0 % 8) (ins .va .0)
+use Rattle.machine.specs.Run.{Run, run, progress, withVmr, noted, joined}
 
 -- i < VLR and (MOE = 0 or VMR<i> = MTF); merge ignores MOE
 unfoldable pub operated : Instruction → Control → ℕ → Bool
-operated ins c i = ltb i (c .vlr) && (not (ins .moe) || isMerge (kindOf (ins .work)) || matches (c .vmr) (ins .mtf) i)
+operated ins c i = ltb i (c .vlr) && (not (ins .moe) || ignoresMoe ins || matches (c .vmr) (ins .mtf) i)
 
+-- ---- what a work is handed; 0 stands for what it does not read
 -- Va's element, or the scalar in its place
 abbrev pub first : Instruction → ℕ → List ℕ → ℕ → ℕ
-first ins scalar l i = pick (ins .scalar) scalar (at l (ins .va .0) i)
+first ins scalar l i = pick (ins .scalar) scalar (pick (readsVa ins) (at l (ins .va .0) i) 0)
+
+-- Vb's element
+abbrev pub second : Instruction → List ℕ → ℕ → ℕ
+second ins l i = pick (readsVb ins) (at l (ins .vb .0) i) 0
+
+-- Vc's own, where it is written
+abbrev pub own : Instruction → List ℕ → ℕ → ℕ
+own ins l i = pick (writesMask ins) 0 (at l (ins .vc .0) i)
+
+-- whether VMR<i> is MTF, for a work that does not obey MOE
+abbrev pub chooses : Instruction → ℕ → ℕ → Bool
+chooses ins vmr i = pick (ignoresMoe ins) (matches vmr (ins .mtf) i) false
 
 -- what element i receives
 unfoldable pub received : Instruction → ℕ → ℕ → Run → Out
 received ins scalar i r =
-    resultOf (ins .work) (ins .exc) (fieldOf ins) (matches (r .progress .control .vmr) (ins .mtf) i)
+    resultOf (workAt (ins .work)) (ins .exc) (fieldOf ins) (chooses ins (r .progress .control .vmr) i)
     (first ins scalar (r .elements) i)
-    (at (r .elements) (ins .vb .0) i)
-    (at (r .elements) (ins .vc .0) i)
+    (second ins (r .elements) i)
+    (own ins (r .elements) i)
 
 -- the bit of Vc in VAER: 16+n for Vn; compare records no register bit
 abbrev pub registerBit : Bool → ℕ → ℕ
-registerBit compare vc = pick compare 0 (2 ^ (16 + vc))
+registerBit mask vc = pick mask 0 (2 ^ (16 + vc))
 
 -- what VAER gets: the bits of the types and the register's
 unfoldable pub notes : ℕ → ℕ → ℕ
@@ -47,17 +57,17 @@ notes register types = pick (eqb types 0) 0 (bitOr types register)
 -- compare writes VMR<i> (its value is that bit), any other work Vc's element i
 unfoldable pub written : Instruction → ℕ → ℕ → Run → Run
 written ins i value r =
-    pick (isCompare (kindOf (ins .work)))
-    (run (r .elements) (progress (withVmr (r .progress .control) (withBit (r .progress .control .vmr) i (value % 2))) (r .progress .recorded)))
+    pick (writesMask ins)
+    (run (r .elements) (progress (withVmr (r .progress .control) (withBit (r .progress .control .vmr) i (value % 2))) (r .progress .gathered)))
     (run (set (r .elements) (placeOf (ins .vc .0) i) value) (r .progress))
 
 abbrev pub recorded : ℕ → Run → Run
-recorded n r = run (r .elements) (gathered n (r .progress))
+recorded n r = run (r .elements) (progress (r .progress .control) (joined (r .progress .gathered) (noted n)))
 
 -- the work of element i, and nothing else
 unfoldable pub worked : Instruction → ℕ → ℕ → Run → Run
 worked ins scalar i r =
-    recorded (notes (registerBit (isCompare (kindOf (ins .work))) (ins .vc .0)) (received ins scalar i r .types))
+    recorded (notes (registerBit (writesMask ins) (ins .vc .0)) (received ins scalar i r .types))
     (written ins i (received ins scalar i r .value) r)
 
 -- all other destination elements and mask bits keep their contents

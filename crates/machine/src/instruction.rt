@@ -7,17 +7,20 @@ use crate::mask;
 use crate::run;
 use numbers::bits;
 use opcodes::Instruction;
+use opcodes::works;
 use state::Element;
 use state::Register;
 ghost use mathlib.Core.Path.{_≡_};
 ghost use mathlib.Core.Bool.{true, false, not, _&&_};
 ghost use Prim.Native.Nat.{ℕ, _<_, _≤_};
-ghost use Rattle.numbers.specs.Bits.{bit, chosen, OnesBelow};
+ghost use Rattle.numbers.specs.Bits.{bit, withBit};
+ghost use Rattle.numbers.specs.Working.{chosen, OnesBelow};
+ghost use Rattle.opcodes.specs.Opcodes.{inOneStep, ignoresMoe};
 ghost use Rattle.machine.specs.Run.{run as runOf};
-ghost use Rattle.machine.specs.Kind.{kindOf, isMerge, isIota};
 ghost use Rattle.machine.specs.Step.{registerBit, notes, worked};
 ghost use Rattle.machine.specs.Instruction.{stepOf, wholeOf};
-ghost use Rattle.machine.specs.Loops.{matched as matchedOf, effected as effectedOf, doneFor};
+ghost use Rattle.opcodes.specs.Working.{Below, isRegisterWork};
+ghost use Rattle.machine.specs.Working.{matched as matchedOf, effected as effectedOf, doneFor, wroteOf};
 
 // The bit of a register in VAER.
 fn register_bit(register: Register) -> u64
@@ -37,26 +40,26 @@ fn matched(vmr: u64, mtf: bool) -> u64
 // The set of the elements that an instruction operates on.
 fn operated(instruction: Instruction, vlr: u64, vmr: u64) -> u64
     requires { ⌜ vlr ≤ 64 ⌝ }
-    ensures { λ r. ⌜ OnesBelow vlr (chosen (instruction .moe && not (isMerge (kindOf (instruction .work)))) (instruction .mtf) vmr) r ⌝ }
+    ensures { λ r. ⌜ OnesBelow vlr (chosen (instruction .moe && not (ignoresMoe instruction)) (instruction .mtf) vmr) r ⌝ }
 {
-    let work = instruction.work;
     bits::chosen_below(
-        instruction.moe & !crate::is_merge(work),
+        instruction.moe & !works::ignores_moe(instruction.work),
         instruction.mtf,
         vmr,
         vlr,
     )
 }
 
-// What a work that writes elements leaves of the control record.
-fn noted(instruction: Instruction, vmr: u64, vcr: u64, types: u64) -> Effect
+// What a work that writes the elements of a set leaves beside them.
+fn noted(instruction: Instruction, vmr: u64, vcr: u64, types: u64, which: u64) -> Effect
     requires { ⌜ instruction .vc .0 < 16 ⌝ }
-    ensures { λ r. ⌜ r ≡ record { vmr = vmr; vcr = vcr; notes = notes (registerBit false (instruction .vc .0)) types } ⌝ }
+    ensures { λ r. ⌜ r ≡ record { vmr = vmr; vcr = vcr; notes = notes (registerBit false (instruction .vc .0)) types; wrote = which } ⌝ }
 {
     Effect {
         vmr,
         vcr,
         notes: run::note(register_bit(Register(instruction.vc.0 as usize)), types),
+        wrote: which,
     }
 }
 
@@ -71,12 +74,12 @@ fn effect(
     vmr: u64,
     vcr: u64,
 ) -> Effect
-    requires { ⌜ (instruction .va .0 < 16) × (instruction .vb .0 < 16) × (instruction .vc .0 < 16) × (vlr ≤ 64) ⌝ }
+    requires { ⌜ Below instruction × (isRegisterWork (instruction .work) ≡ true) × (vlr ≤ 64) ⌝ }
     requires { ⌜ ((i : ℕ) → bit which i ≡ true → i < vlr) ⌝ }
-    ensures { λ r. ⌜ ((p : Progress) → p .control .vlr ≡ vlr → p .control .vmr ≡ vmr → p .control .vcr ≡ vcr → runOf (now (elements .exit)) (effectedOf r p) ≡ doneFor which instruction scalar (runOf (now (elements .entry)) p)) ⌝ }
+    ensures left { λ r. ⌜ ((p : Progress) → p .control .vlr ≡ vlr → p .control .vmr ≡ vmr → p .control .vcr ≡ vcr → runOf (now (elements .exit)) (effectedOf r p) ≡ doneFor which instruction scalar (runOf (now (elements .entry)) p)) ⌝ }
+    ensures wrote { λ r. ⌜ r .wrote ≡ wroteOf instruction which (r .vcr) ⌝ }
 {
-    let work = instruction.work;
-    if crate::is_compare(work) {
+    if works::writes_mask(instruction.work) {
         return mask::over(
             &*elements,
             instruction,
@@ -88,11 +91,11 @@ fn effect(
         );
     }
     let mask = matched(vmr, instruction.mtf);
-    if crate::is_iota(work) {
+    if works::in_one_step(instruction.work) {
         return iota::iota(elements, instruction, scalar, mask, vlr, vmr);
     }
     let types = lanes::over(elements, instruction, scalar, mask, which, vlr as usize);
-    noted(instruction, vmr, vcr, types)
+    noted(instruction, vmr, vcr, types, which)
 }
 
 // The work of one element, which is operated on.
@@ -104,37 +107,34 @@ fn one(
     vmr: u64,
     vcr: u64,
 ) -> Effect
-    requires { ⌜ (instruction .va .0 < 16) × (instruction .vb .0 < 16) × (instruction .vc .0 < 16) × (i .0 < 64) × (isIota (kindOf (instruction .work)) ≡ false) ⌝ }
-    ensures { λ r. ⌜ ((p : Progress) → p .control .vmr ≡ vmr → p .control .vcr ≡ vcr → runOf (now (elements .exit)) (effectedOf r p) ≡ worked instruction scalar (i .0) (runOf (now (elements .entry)) p)) ⌝ }
+    requires { ⌜ Below instruction × (isRegisterWork (instruction .work) ≡ true) × (i .0 < 64) × (inOneStep instruction ≡ false) ⌝ }
+    ensures left { λ r. ⌜ ((p : Progress) → p .control .vmr ≡ vmr → p .control .vcr ≡ vcr → runOf (now (elements .exit)) (effectedOf r p) ≡ worked instruction scalar (i .0) (runOf (now (elements .entry)) p)) ⌝ }
+    ensures wrote { λ r. ⌜ r .wrote ≡ wroteOf instruction (withBit 0 (i .0) 1) (r .vcr) ⌝ }
 {
-    let work = instruction.work;
-    if crate::is_compare(work) {
+    if works::writes_mask(instruction.work) {
         return mask::at(&*elements, instruction, scalar, i, vmr, vcr);
     }
+    let which = bits::with_bit(0, i.0, 1);
     let types = lanes::some(
         elements,
         instruction,
         scalar,
         matched(vmr, instruction.mtf),
-        bits::with_bit(0, i.0, 1),
+        which,
     );
-    noted(instruction, vmr, vcr, types)
+    noted(instruction, vmr, vcr, types, which)
 }
 
-// The control record after what was done.
+// The run under way after what was done.
 fn effected(progress: Progress, effect: Effect) -> Progress
     ensures { λ r. ⌜ r ≡ effectedOf effect progress ⌝ }
 {
     let mut control = progress.control;
     control.vmr = effect.vmr;
     control.vcr = effect.vcr;
-    run::gather(
-        Progress {
-            control,
-            recorded: progress.recorded,
-        },
-        effect.notes,
-    )
+    let before = progress.gathered;
+    let gathered = run::gather(before, effect.notes);
+    Progress { control, gathered }
 }
 
 // A register instruction, whole.
@@ -144,7 +144,7 @@ pub fn whole(
     instruction: Instruction,
     scalar: u64,
 ) -> Progress
-    requires { ⌜ (instruction .va .0 < 16) × (instruction .vb .0 < 16) × (instruction .vc .0 < 16) × (progress .control .vlr ≤ 64) ⌝ }
+    requires { ⌜ Below instruction × (isRegisterWork (instruction .work) ≡ true) × (progress .control .vlr ≤ 64) ⌝ }
     ensures { λ r. ⌜ runOf (now (elements .exit)) r ≡ wholeOf instruction scalar (runOf (now (elements .entry)) progress) ⌝ }
 {
     let vlr = progress.control.vlr;
@@ -163,14 +163,13 @@ pub fn step(
     scalar: u64,
     element: Element,
 ) -> Progress
-    requires { ⌜ (instruction .va .0 < 16) × (instruction .vb .0 < 16) × (instruction .vc .0 < 16) × (progress .control .vlr ≤ 64) × (element .0 < 64) ⌝ }
+    requires { ⌜ Below instruction × (isRegisterWork (instruction .work) ≡ true) × (progress .control .vlr ≤ 64) × (element .0 < 64) ⌝ }
     ensures { λ r. ⌜ runOf (now (elements .exit)) r ≡ stepOf instruction scalar (element .0) (runOf (now (elements .entry)) progress) ⌝ }
 {
     let vlr = progress.control.vlr;
     let vmr = progress.control.vmr;
     let vcr = progress.control.vcr;
-    let work = instruction.work;
-    if crate::is_iota(work) {
+    if works::in_one_step(instruction.work) {
         let done = effect(elements, instruction, scalar, 0, vlr, vmr, vcr);
         return effected(progress, done);
     }

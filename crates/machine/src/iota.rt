@@ -6,14 +6,15 @@ use state::Element;
 use state::Register;
 ghost use mathlib.Core.Path.{_≡_};
 ghost use mathlib.Core.Bool.{true};
-ghost use Prim.Native.Nat.{ℕ, _*_, _+_, _%_, _^_, _<_, _≤_};
+ghost use Prim.Native.Nat.{ℕ, _*_, _-_, _%_, _^_, _<_, _≤_};
 ghost use lib.Count.{ones};
-ghost use Rattle.numbers.specs.Rising.{rising, ofOnes};
+ghost use Rattle.numbers.specs.Working.{lowBits, ofOnes};
+ghost use Rattle.numbers.specs.Rising.{rising};
 ghost use Rattle.machine.specs.declared.Progress.{Progress};
-ghost use Rattle.machine.specs.Kind.{kindOf, isIota};
+ghost use Rattle.opcodes.specs.Opcodes.{inOneStep};
 ghost use Rattle.machine.specs.Run.{run as runOf};
 ghost use Rattle.machine.specs.Iota.{put};
-ghost use Rattle.machine.specs.Loops.{matched, wrote, iotaTurn, effected, doneFor};
+ghost use Rattle.machine.specs.Working.{matched, counted, iotaTurn, effected, doneFor};
 
 // The next element of vc gets i's multiple.
 fn turn(elements: &mut [u64; 1024], stride: u32, vc: Register, i: Element, next: Element)
@@ -27,7 +28,7 @@ fn turn(elements: &mut [u64; 1024], stride: u32, vc: Register, i: Element, next:
 // The walk over the ones of a set, rising; gives how many there were.
 fn walk(elements: &mut [u64; 1024], which: u64, stride: u32, vc: Register) -> usize
     requires { ⌜ vc .0 < 16 ⌝ }
-    ensures { λ r. ⌜ wrote (now (elements .exit)) r ≡ rising (ofOnes (iotaTurn stride (vc .0)) which) 64 (wrote (now (elements .entry)) 0) ⌝ }
+    ensures { λ r. ⌜ counted (now (elements .exit)) r ≡ rising (ofOnes (iotaTurn stride (vc .0)) which) 64 (counted (now (elements .entry)) 0) ⌝ }
 {
     let mut next: usize = 0;
     let mut left = which;
@@ -61,15 +62,18 @@ pub fn iota(
     vlr: u64,
     vmr: u64,
 ) -> Effect
-    requires { ⌜ (instruction .vc .0 < 16) × (vlr ≤ 64) × (isIota (kindOf (instruction .work)) ≡ true) × (mask ≡ matched vmr (instruction .mtf)) ⌝ }
-    ensures { λ r. ⌜ ((which : ℕ) (p : Progress) → p .control .vlr ≡ vlr → p .control .vmr ≡ vmr → runOf (now (elements .exit)) (effected r p) ≡ doneFor which instruction stride (runOf (now (elements .entry)) p)) ⌝ }
+    requires { ⌜ (instruction .vc .0 < 16) × (vlr ≤ 64) × (inOneStep instruction ≡ true) × (mask ≡ matched vmr (instruction .mtf)) ⌝ }
+    ensures left { λ r. ⌜ ((which : ℕ) (p : Progress) → p .control .vlr ≡ vlr → p .control .vmr ≡ vmr → runOf (now (elements .exit)) (effected r p) ≡ doneFor which instruction stride (runOf (now (elements .entry)) p)) ⌝ }
+    ensures wrote { λ r. ⌜ r .wrote ≡ lowBits (2 ^ 64 - 1) (r .vcr) ⌝ }
 {
     let which = bits::low_bits(mask, vlr);
     let low = (stride % 4294967296) as u32;
     walk(elements, which, low, Register(instruction.vc.0 as usize));
+    let matching = count(which);
     Effect {
         vmr,
-        vcr: count(which),
+        vcr: matching,
         notes: 0,
+        wrote: bits::low_bits(18446744073709551615, matching),
     }
 }

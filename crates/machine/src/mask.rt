@@ -7,135 +7,166 @@ use element;
 use element::Out;
 use numbers::bits;
 use opcodes::Instruction;
+use opcodes::works;
 use state::Element;
-use state::Register;
 ghost use mathlib.Core.Path.{_≡_};
-ghost use mathlib.Core.Bool.{true, false, not, _||_};
+ghost use mathlib.Core.Bool.{true, not, _||_};
 ghost use Prim.Native.Nat.{ℕ, _<_, _≤_, _/_, _%_};
 ghost use lib.Dec.{eqb};
 ghost use Rattle.numbers.specs.Choice.{pick};
 ghost use Rattle.numbers.specs.Bits.{bit};
+ghost use Rattle.opcodes.specs.Opcodes.{writesMask};
+ghost use Rattle.element.specs.Working.{isCompare};
 ghost use Rattle.machine.specs.declared.Progress.{Progress};
-ghost use Rattle.machine.specs.Kind.{kindOf, isCompare};
 ghost use Rattle.machine.specs.Run.{run as runOf};
 ghost use Rattle.machine.specs.Step.{worked};
-ghost use Rattle.machine.specs.Loops.{comparedAt, oddFrom, OddBelow, effected, doneFor};
+ghost use Rattle.opcodes.specs.Working.{Below};
+ghost use Rattle.machine.specs.Working.{comparedAt, oddFrom, OddBelow, effected, doneFor};
 
 // The compare of one element.
 fn one(
     elements: &[u64; 1024],
-    code: u8,
+    work: u8,
     relation: u64,
     scalar: bool,
+    instruction: Instruction,
     x: u64,
-    va: Register,
-    vb: Register,
     i: Element,
 ) -> Out
-    requires { ⌜ (va .0 < 16) × (vb .0 < 16) × (i .0 < 64) ⌝ }
-    ensures { λ r. ⌜ r ≡ comparedAt code relation scalar x (va .0) (vb .0) (now (elements .entry)) (i .0) ⌝ }
+    requires { ⌜ (isCompare work ≡ true) × Below instruction × (i .0 < 64) ⌝ }
+    ensures { λ r. ⌜ r ≡ comparedAt work relation scalar instruction x (now (elements .entry)) (i .0) ⌝ }
 {
     element::compared(
-        code,
+        work,
         relation,
-        operand::first(elements, scalar, x, va, i),
-        operand::element_of(elements, vb, i),
+        operand::first(elements, scalar, x, instruction, i),
+        operand::vb_of(elements, instruction, i),
     )
 }
 
 // The elements below n, from the highest.
 fn every(
     elements: &[u64; 1024],
-    code: u8,
+    work: u8,
     relation: u64,
     scalar: bool,
+    instruction: Instruction,
     x: u64,
-    va: Register,
-    vb: Register,
     n: usize,
 ) -> Found
-    requires { ⌜ (va .0 < 16) × (vb .0 < 16) × (n ≤ 64) ⌝ }
-    ensures found { λ r. ⌜ r .found ≡ oddFrom (λ i. comparedAt code relation scalar x (va .0) (vb .0) (now (elements .entry)) i .value) 0 n ⌝ }
-    ensures refused { λ r. ⌜ r .refused ≡ oddFrom (λ i. comparedAt code relation scalar x (va .0) (vb .0) (now (elements .entry)) i .types / 4) 0 n ⌝ }
+    requires { ⌜ (isCompare work ≡ true) × Below instruction × (n ≤ 64) ⌝ }
+    ensures found { λ r. ⌜ r .found ≡ oddFrom (λ i. comparedAt work relation scalar instruction x (now (elements .entry)) i .value) 0 n ⌝ }
+    ensures refused { λ r. ⌜ r .refused ≡ oddFrom (λ i. comparedAt work relation scalar instruction x (now (elements .entry)) i .types / 4) 0 n ⌝ }
 {
     let mut found: u64 = 0;
     let mut refused: u64 = 0;
     let mut i = n;
     while 0 < i {
         i -= 1;
-        let o = one(elements, code, relation, scalar, x, va, vb, Element(i));
+        let o = one(elements, work, relation, scalar, instruction, x, Element(i));
         found = found * 2 + o.value % 2;
         refused = refused * 2 + o.types / 4 % 2;
     }
     Found { found, refused }
 }
 
-// Longwords with a scalar, with a constant for each relation: the compiler makes a loop for each.
-fn with_scalar(
-    elements: &[u64; 1024],
-    relation: u64,
-    x: u64,
-    va: Register,
-    vb: Register,
-    n: usize,
-) -> Found
-    requires { ⌜ (va .0 < 16) × (vb .0 < 16) × (n ≤ 64) ⌝ }
-    ensures found { λ r. ⌜ r .found ≡ oddFrom (λ i. comparedAt 4 relation true x (va .0) (vb .0) (now (elements .entry)) i .value) 0 n ⌝ }
-    ensures refused { λ r. ⌜ r .refused ≡ oddFrom (λ i. comparedAt 4 relation true x (va .0) (vb .0) (now (elements .entry)) i .types / 4) 0 n ⌝ }
-{
-    match relation {
-        0 => every(elements, 4, 0, true, x, va, vb, n),
-        1 => every(elements, 4, 1, true, x, va, vb, n),
-        2 => every(elements, 4, 2, true, x, va, vb, n),
-        4 => every(elements, 4, 4, true, x, va, vb, n),
-        5 => every(elements, 4, 5, true, x, va, vb, n),
-        6 => every(elements, 4, 6, true, x, va, vb, n),
-        _ => every(elements, 4, relation, true, x, va, vb, n),
-    }
-}
-
-// Longwords of two registers.
-fn of_registers(
-    elements: &[u64; 1024],
-    relation: u64,
-    x: u64,
-    va: Register,
-    vb: Register,
-    n: usize,
-) -> Found
-    requires { ⌜ (va .0 < 16) × (vb .0 < 16) × (n ≤ 64) ⌝ }
-    ensures found { λ r. ⌜ r .found ≡ oddFrom (λ i. comparedAt 4 relation false x (va .0) (vb .0) (now (elements .entry)) i .value) 0 n ⌝ }
-    ensures refused { λ r. ⌜ r .refused ≡ oddFrom (λ i. comparedAt 4 relation false x (va .0) (vb .0) (now (elements .entry)) i .types / 4) 0 n ⌝ }
-{
-    match relation {
-        0 => every(elements, 4, 0, false, x, va, vb, n),
-        1 => every(elements, 4, 1, false, x, va, vb, n),
-        2 => every(elements, 4, 2, false, x, va, vb, n),
-        4 => every(elements, 4, 4, false, x, va, vb, n),
-        5 => every(elements, 4, 5, false, x, va, vb, n),
-        6 => every(elements, 4, 6, false, x, va, vb, n),
-        _ => every(elements, 4, relation, false, x, va, vb, n),
-    }
-}
-
-// Longwords, by the form.
-fn longwords(
+// Longwords, with a constant for each relation: the compiler makes a loop for each.
+fn by_relation(
     elements: &[u64; 1024],
     relation: u64,
     scalar: bool,
+    instruction: Instruction,
     x: u64,
-    va: Register,
-    vb: Register,
     n: usize,
 ) -> Found
-    requires { ⌜ (va .0 < 16) × (vb .0 < 16) × (n ≤ 64) ⌝ }
-    ensures found { λ r. ⌜ r .found ≡ oddFrom (λ i. comparedAt 4 relation scalar x (va .0) (vb .0) (now (elements .entry)) i .value) 0 n ⌝ }
-    ensures refused { λ r. ⌜ r .refused ≡ oddFrom (λ i. comparedAt 4 relation scalar x (va .0) (vb .0) (now (elements .entry)) i .types / 4) 0 n ⌝ }
+    requires { ⌜ Below instruction × (n ≤ 64) ⌝ }
+    ensures found { λ r. ⌜ r .found ≡ oddFrom (λ i. comparedAt 4 relation scalar instruction x (now (elements .entry)) i .value) 0 n ⌝ }
+    ensures refused { λ r. ⌜ r .refused ≡ oddFrom (λ i. comparedAt 4 relation scalar instruction x (now (elements .entry)) i .types / 4) 0 n ⌝ }
 {
-    if scalar {
-        return with_scalar(elements, relation, x, va, vb, n);
+    match relation {
+        0 => every(
+            elements,
+            works::COMPARE_LONGWORD,
+            0,
+            scalar,
+            instruction,
+            x,
+            n,
+        ),
+        1 => every(
+            elements,
+            works::COMPARE_LONGWORD,
+            1,
+            scalar,
+            instruction,
+            x,
+            n,
+        ),
+        2 => every(
+            elements,
+            works::COMPARE_LONGWORD,
+            2,
+            scalar,
+            instruction,
+            x,
+            n,
+        ),
+        4 => every(
+            elements,
+            works::COMPARE_LONGWORD,
+            4,
+            scalar,
+            instruction,
+            x,
+            n,
+        ),
+        5 => every(
+            elements,
+            works::COMPARE_LONGWORD,
+            5,
+            scalar,
+            instruction,
+            x,
+            n,
+        ),
+        6 => every(
+            elements,
+            works::COMPARE_LONGWORD,
+            6,
+            scalar,
+            instruction,
+            x,
+            n,
+        ),
+        // No accepted control word has another relation.
+        _ => every(
+            elements,
+            works::COMPARE_LONGWORD,
+            relation,
+            scalar,
+            instruction,
+            x,
+            n,
+        ),
     }
-    of_registers(elements, relation, x, va, vb, n)
+}
+
+// Longwords, with a constant for the form.
+fn longwords(
+    elements: &[u64; 1024],
+    relation: u64,
+    instruction: Instruction,
+    x: u64,
+    n: usize,
+) -> Found
+    requires { ⌜ Below instruction × (n ≤ 64) ⌝ }
+    ensures found { λ r. ⌜ r .found ≡ oddFrom (λ i. comparedAt 4 relation (instruction .scalar) instruction x (now (elements .entry)) i .value) 0 n ⌝ }
+    ensures refused { λ r. ⌜ r .refused ≡ oddFrom (λ i. comparedAt 4 relation (instruction .scalar) instruction x (now (elements .entry)) i .types / 4) 0 n ⌝ }
+{
+    if instruction.scalar {
+        return by_relation(elements, relation, true, instruction, x, n);
+    }
+    by_relation(elements, relation, false, instruction, x, n)
 }
 
 // What a relation finds, from what its bits <1:0> found. With bit <2> it is the opposite: the elements that were neither found nor
@@ -154,26 +185,32 @@ fn opposed(m: Found, relation: u64) -> Found
     }
 }
 
-// Longwords or F, by the work's number. The loop over F goes by the relation's bits <1:0>; bit <2> is looked at once, after it.
-// Bits from n on are left open.
+// Longwords or F. The loop over F goes by the relation's bits <1:0>; bit <2> is looked at once, after it. Bits from n on are left open.
 fn either(
     elements: &[u64; 1024],
-    code: u8,
     relation: u64,
-    scalar: bool,
+    instruction: Instruction,
     x: u64,
-    va: Register,
-    vb: Register,
     n: usize,
 ) -> Found
-    requires { ⌜ (va .0 < 16) × (vb .0 < 16) × (n ≤ 64) ⌝ }
-    ensures found { λ r. ⌜ OddBelow (λ i. comparedAt code relation scalar x (va .0) (vb .0) (now (elements .entry)) i .value) n (r .found) ⌝ }
-    ensures refused { λ r. ⌜ OddBelow (λ i. comparedAt code relation scalar x (va .0) (vb .0) (now (elements .entry)) i .types / 4) n (r .refused) ⌝ }
+    requires { ⌜ (isCompare (instruction .work) ≡ true) × Below instruction × (n ≤ 64) ⌝ }
+    ensures found { λ r. ⌜ OddBelow (λ i. comparedAt (instruction .work) relation (instruction .scalar) instruction x (now (elements .entry)) i .value) n (r .found) ⌝ }
+    ensures refused { λ r. ⌜ OddBelow (λ i. comparedAt (instruction .work) relation (instruction .scalar) instruction x (now (elements .entry)) i .types / 4) n (r .refused) ⌝ }
 {
-    match code {
-        4 => longwords(elements, relation, scalar, x, va, vb, n),
+    let work = instruction.work;
+    match work {
+        works::COMPARE_LONGWORD => longwords(elements, relation, instruction, x, n),
+        // F: the only compare that is left.
         _ => opposed(
-            every(elements, code, relation % 4, scalar, x, va, vb, n),
+            every(
+                elements,
+                works::COMPARE_F,
+                relation % 4,
+                instruction.scalar,
+                instruction,
+                x,
+                n,
+            ),
             relation,
         ),
     }
@@ -189,26 +226,18 @@ pub fn over(
     vmr: u64,
     vcr: u64,
 ) -> Effect
-    requires { ⌜ (instruction .va .0 < 16) × (instruction .vb .0 < 16) × (n ≤ 64) × (isCompare (kindOf (instruction .work)) ≡ true) ⌝ }
+    requires { ⌜ Below instruction × (n ≤ 64) × (writesMask instruction ≡ true) ⌝ }
     requires { ⌜ ((i : ℕ) → bit which i ≡ true → i < n) ⌝ }
-    ensures { λ r. ⌜ ((p : Progress) → p .control .vmr ≡ vmr → p .control .vcr ≡ vcr → runOf (now (elements .entry)) (effected r p) ≡ doneFor which instruction x (runOf (now (elements .entry)) p)) ⌝ }
+    ensures left { λ r. ⌜ ((p : Progress) → p .control .vmr ≡ vmr → p .control .vcr ≡ vcr → runOf (now (elements .entry)) (effected r p) ≡ doneFor which instruction x (runOf (now (elements .entry)) p)) ⌝ }
+    ensures wrote { λ r. ⌜ r .wrote ≡ 0 ⌝ }
 {
-    let work = instruction.work;
-    let m = either(
-        elements,
-        element::code(work),
-        instruction.vc.0 as u64 % 8,
-        instruction.scalar,
-        x,
-        Register(instruction.va.0 as usize),
-        Register(instruction.vb.0 as usize),
-        n,
-    );
+    let m = either(elements, instruction.vc.0 as u64 % 8, instruction, x, n);
     let refused = m.refused & which;
     Effect {
         vmr: bits::replaced(vmr, m.found, which),
         vcr,
         notes: if refused == 0 { 0 } else { 4 },
+        wrote: 0,
     }
 }
 
@@ -221,23 +250,23 @@ pub fn at(
     vmr: u64,
     vcr: u64,
 ) -> Effect
-    requires { ⌜ (instruction .va .0 < 16) × (instruction .vb .0 < 16) × (i .0 < 64) × (isCompare (kindOf (instruction .work)) ≡ true) ⌝ }
-    ensures { λ r. ⌜ ((p : Progress) → p .control .vmr ≡ vmr → p .control .vcr ≡ vcr → runOf (now (elements .entry)) (effected r p) ≡ worked instruction x (i .0) (runOf (now (elements .entry)) p)) ⌝ }
+    requires { ⌜ Below instruction × (i .0 < 64) × (writesMask instruction ≡ true) ⌝ }
+    ensures left { λ r. ⌜ ((p : Progress) → p .control .vmr ≡ vmr → p .control .vcr ≡ vcr → runOf (now (elements .entry)) (effected r p) ≡ worked instruction x (i .0) (runOf (now (elements .entry)) p)) ⌝ }
+    ensures wrote { λ r. ⌜ r .wrote ≡ 0 ⌝ }
 {
-    let work = instruction.work;
     let o = one(
         elements,
-        element::code(work),
+        instruction.work,
         instruction.vc.0 as u64 % 8,
         instruction.scalar,
+        instruction,
         x,
-        Register(instruction.va.0 as usize),
-        Register(instruction.vb.0 as usize),
         i,
     );
     Effect {
         vmr: bits::with_bit(vmr, i.0, o.value % 2),
         vcr,
         notes: o.types,
+        wrote: 0,
     }
 }

@@ -1,91 +1,89 @@
 -- A whole memory instruction, by what its parts promise. Assumes nothing.
 use mathlib.Core.Bool.{Bool, true, false, not, _&&_}
-use mathlib.Core.Path.{_≡_, refl, sym, ap, ap₂, _∙_}
-use mathlib.Core.List.{List, [], _∷_}
-use Prim.Native.Nat.{ℕ, _+_, _-_, _%_, _^_, _≤_}
+use mathlib.Core.Path.{_≡_, sym, ap, ap₂, _∙_}
+use mathlib.Core.List.{List}
+use Prim.Native.Nat.{ℕ, _+_, _%_, _^_, _≤_}
 use lib.ListN.{length, getD}
 use borrow.Author.Tests.{not-true, not-false, le-ltb}
-use Rattle.numbers.specs.Bits.{bit, OnesBelow}
-use Rattle.state.specs.State.{State}
+use Rattle.numbers.specs.Bits.{bit}
+use Rattle.numbers.specs.Working.{OnesBelow}
+use Rattle.state.specs.declared.answer.Answer.{Answer}
+use Rattle.state.specs.declared.answer.Answer.the-variants.{Done, WindowRefused}
+use Rattle.state.specs.declared.answer.Ended.{Ended}
+use Rattle.state.specs.Outcome.{Outcome, outcome, refused}
+use Rattle.state.specs.State.{State, state}
+use Rattle.state.proofs.Refusing.{refuses-window}
 use Rattle.opcodes.specs.declared.Instruction.{Instruction}
 use Rattle.memory.specs.declared.Addressing.{Addressing}
-use Rattle.memory.specs.declared.Access.{Access}
-use Rattle.memory.specs.declared.Access.the-variants.{Done, WindowRefused, Misaligned, OutsideWindow}
+use Rattle.memory.specs.declared.Fault.{Fault}
+use Rattle.memory.specs.declared.Test.{Test}
+use Rattle.memory.specs.declared.Search.{Search}
+use Rattle.memory.specs.declared.Search.the-variants as search
 use Rattle.memory.specs.Works.{isStore, isQuadword, sizeOf}
 use Rattle.memory.specs.Window.{allowed}
-use Rattle.memory.specs.Address.{addressOf, addressIn, chosenBy, operated, AllWithin, testStep, tested, Searched}
-use Rattle.memory.specs.Move.{Moved, moved, loadStep, storeStep, movesBy, unlessBad, movedBy, movedOf}
-use types.Run.{OneOf, miss}
-use denote.Enum.Declared.{tagOf}
-use Rattle.memory.proofs.Access.{the-type}
+use Rattle.memory.specs.Address.{addressOf, chosenBy, operated, testStep, tested}
+use Rattle.memory.specs.Working.{addressIn, testsAt, AllWithin, Searched}
+use Rattle.memory.specs.Move.{loadStep, storeStep, movesBy, badElement, unlessBad, movedBy, movedOf}
 use Rattle.numbers.proofs.Rising.{cut}
-use Rattle.memory.proofs.Testing.{or-done, all-within}
+use Rattle.memory.proofs.Testing.{or-fine, within, all-fine}
 use Rattle.memory.proofs.Moving.{moves-agree}
 use Rattle.memory.proofs.Windows.{ends-within, origin-straight}
 use Rattle.memory.proofs.Relative.{addresses-from, relative}
 
 -- elements that are chosen alike, none of them from n on
-module _ (n m : ℕ) (short : n ≤ m) (chosen chosen′ : ℕ → Bool) (address : ℕ → ℕ)
+module _ (n m : ℕ) (short : n ≤ m) (chosen chosen′ : ℕ → Bool) (tests : ℕ → Test) (place : ℕ → ℕ)
     (choice : (i : ℕ) → chosen i ≡ chosen′ i)
     (left : (i : ℕ) → n ≤ i → chosen′ i ≡ false) where
-  like-tests : (size origin end : ℕ) → tested size origin end chosen address m ≡ tested size origin end chosen′ address n
+  like-tests : tested chosen tests m ≡ tested chosen′ tests n
   unfolding testStep
-  like-tests size origin end =
-      cut _ _ n m Done short (λ i x h. let c = choice i in rw c) (λ i x h. let c : chosen i ≡ false = choice i ∙ left i h in rw c (or-done x))
+  like-tests = cut _ _ n m search.Fine short (λ i x h. let c = choice i in rw c) (λ i x h. let c = choice i ∙ left i h in rw c (or-fine x))
 
-  like-moves : (store quadword : Bool) (origin vc : ℕ) (l w : List ℕ) →
-      movesBy store quadword origin vc chosen address m l w ≡ movesBy store quadword origin vc chosen′ address n l w
+  like-moves : (store quadword : Bool) (vc : ℕ) (l w : List ℕ) → movesBy store quadword vc chosen place m l w ≡ movesBy store quadword vc chosen′ place n l w
   unfolding storeStep loadStep
-  like-moves true quadword origin vc l w =
-      ap (moved Done l) (cut _ _ n m w short (λ i x h. let c = choice i in rw c) (λ i x h. let c : chosen i ≡ false = choice i ∙ left i h in rw c))
-  like-moves false quadword origin vc l w =
-      ap (λ (x : List ℕ). moved Done x w)
-      (cut _ _ n m l short (λ i x h. let c = choice i in rw c) (λ i x h. let c : chosen i ≡ false = choice i ∙ left i h in rw c))
+  like-moves true quadword vc l w =
+      ap (λ (x : List ℕ). (l, x)) (cut _ _ n m w short (λ i x h. let c = choice i in rw c) (λ i x h. let c = choice i ∙ left i h in rw c))
+  like-moves false quadword vc l w =
+      ap (λ (x : List ℕ). (x, w)) (cut _ _ n m l short (λ i x h. let c = choice i in rw c) (λ i x h. let c = choice i ∙ left i h in rw c))
 
-  like : (store quadword : Bool) (origin vc : ℕ) (l w : List ℕ) →
-      movedBy store quadword origin vc chosen address m l w ≡ movedBy store quadword origin vc chosen′ address n l w
-  like store quadword origin vc l w =
-      ap₂ (λ (a : Access) (m : Moved). unlessBad a m l w)
-      (like-tests (sizeOf quadword) origin (origin + length w))
-      (like-moves store quadword origin vc l w)
+  like : (store quadword : Bool) (vc : ℕ) (s : State) (w : List ℕ)
+      → movedBy store quadword vc chosen tests place m s w ≡ movedBy store quadword vc chosen′ tests place n s w
+  like store quadword vc s w =
+      ap₂ (λ (a : Search) (m : List ℕ × List ℕ). unlessBad a s w m) like-tests (like-moves store quadword vc (s .elements) w)
 
 -- a set is tested, and then moved by the addresses that were kept
-module _ (store quadword : Bool) (origin vc which : ℕ) (address : ℕ → ℕ) (l w : List ℕ) (t : Access) (addresses : List ℕ)
-    (found : Searched (sizeOf quadword) origin (origin + length w) which address t addresses) where
+module _ (store quadword : Bool) (vc which : ℕ) (place : ℕ → ℕ) (s : State) (w : List ℕ) (t : Search) (addresses : List ℕ)
+    (found : Searched (sizeOf quadword) (length w) which place t addresses) where
+  abbrev tests : ℕ → Test
+  tests = testsAt (sizeOf quadword) (length w) place
+
+  tells : (a : Search) → t ≡ a → (m : Outcome (State × List ℕ)) → m ≡ unlessBad a s w (movesBy store quadword vc (bit which) place 64 (s .elements) w)
+      → m ≡ movedBy store quadword vc (bit which) tests place 64 s w
+  tells a e m f = f ∙ ap (λ (b : Search). unlessBad b s w (movesBy store quadword vc (bit which) place 64 (s .elements) w)) (sym e ∙ found .told)
+
   -- a bad element: nothing is moved
-  pub none : OneOf (1 ∷ 2 ∷ 3 ∷ []) (tagOf the-type t) → moved t l w ≡ movedBy store quadword origin vc (bit which) address 64 l w
-  none k =
-      kept t (movesBy store quadword origin vc (bit which) address 64 l w) k
-      ∙ ap (λ (a : Access). unlessBad a (movesBy store quadword origin vc (bit which) address 64 l w) l w) (found .told)
-    where
-      kept : (a : Access) (m : Moved) → OneOf (1 ∷ 2 ∷ 3 ∷ []) (tagOf the-type a) → moved a l w ≡ unlessBad a m l w
-      kept Done m k = absurd (miss (1 ∷ 2 ∷ 3 ∷ []) 0 tt k)
-      kept WindowRefused m k = refl
-      kept (Misaligned e) m k = refl
-      kept (OutsideWindow e) m k = refl
+  pub none : (f : Fault) (e : ℕ) (a : Answer) (r : Ended) → t ≡ search.Bad f e → a ≡ badElement f e → outcome (r .answer) (r .control) ≡ refused a (s .control)
+      → outcome (r .answer) (state (s .elements) (r .control), w) ≡ movedBy store quadword vc (bit which) tests place 64 s w
+  none f e a r k b d =
+      tells (search.Bad f e) k _ (refuses-window s (badElement f e) r (d ∙ ap (λ (x : Answer). refused x (s .control)) b) w)
 
   -- no bad element: all are moved
-  module _ (e : t ≡ Done) where
-    pub every : (m : Moved) → m ≡ movesBy store quadword origin vc (bit which) (λ (k : ℕ). getD addresses k 0) 64 l w
-        → m ≡ movedBy store quadword origin vc (bit which) address 64 l w
-    every m f =
-        let g : Done ≡ tested (sizeOf quadword) origin (origin + length w) (bit which) address 64 = sym e ∙ found .told in
-        rw (← g)
-        (f
-        ∙ moves-agree quadword origin origin vc (bit which) (λ (k : ℕ). getD addresses k 0) address 64 l w
-        (λ i _ c. ap (λ (k : ℕ). k - origin) (found .kept e i c))
-        store)
+  module _ (e : t ≡ search.Fine) where
+    pub every : (l′ w′ : List ℕ) → (l′, w′) ≡ movesBy store quadword vc (bit which) (λ (k : ℕ). getD addresses k 0) 64 (s .elements) w
+        → outcome (Done 0) (state l′ (s .control), w′) ≡ movedBy store quadword vc (bit which) tests place 64 s w
+    every l′ w′ f =
+        tells search.Fine e _
+        (ap (unlessBad search.Fine s w)
+        (f ∙ moves-agree quadword vc (bit which) (λ (k : ℕ). getD addresses k 0) place 64 (s .elements) w (λ i _ c. found .kept e i c) store))
 
-    pub lie-within : AllWithin (sizeOf quadword) origin (origin + length w) (bit which) (λ (k : ℕ). getD addresses k 0) 64
-    lie-within i h c =
-        let k = found .kept e i c in
-        rw k (all-within (sizeOf quadword) origin (origin + length w) (bit which) address 64 i (sym (found .told) ∙ e) h c)
+    pub lie-within : AllWithin (sizeOf quadword) (length w) (bit which) (λ (k : ℕ). getD addresses k 0) 64
+    lie-within i h c = rw (found .kept e i c) (within (sizeOf quadword) (length w) (place i) (all-fine (bit which) tests 64 i (sym (found .told) ∙ e) h c))
 
 -- `fit` is what the window's test said
 module _ (s : State) (ins : Instruction) (base stride : ℕ) (w : List ℕ) (origin : ℕ) (fit : Bool) (said : fit ≡ allowed (length w) origin) where
-  pub refused : not fit ≡ true → moved WindowRefused (s .elements) w ≡ movedOf s ins base stride w origin
+  pub refuses : not fit ≡ true → (r : Ended) → outcome (r .answer) (r .control) ≡ refused WindowRefused (s .control)
+      → outcome (r .answer) (state (s .elements) (r .control), w) ≡ movedOf s ins base stride w origin
   unfolding movedOf
-  refused e = let g : allowed (length w) origin ≡ false = sym said ∙ not-true fit e in rw g
+  refuses e r d = let g : allowed (length w) origin ≡ false = sym said ∙ not-true fit e in rw g (refuses-window s WindowRefused r d w)
 
   module _ (passed : not fit ≡ false) where
     pub ends-in-time : origin + length w ≤ 2 ^ 32
@@ -96,18 +94,18 @@ module _ (s : State) (ins : Instruction) (base stride : ℕ) (w : List ℕ) (ori
         → s .control .vlr ≤ 64 → (which : ℕ) → OnesBelow (s .control .vlr) (chosenBy (ins .moe) (ins .mtf) (s .control .vmr)) which
         → (store quadword : Bool) → store ≡ isStore (ins .work) → quadword ≡ isQuadword (ins .work)
         → (vc : ℕ) → vc ≡ ins .vc .0
-        → (m : Moved)
-        → m ≡ movedBy store quadword 0 vc (bit which) (addressIn a (s .elements)) 64 (s .elements) w
+        → (m : Outcome (State × List ℕ))
+        → m ≡ movedBy store quadword vc (bit which) (testsAt (sizeOf quadword) (length w) (addressIn a (s .elements))) (addressIn a (s .elements)) 64 s w
         → m ≡ movedOf s ins base stride w origin
     unfolding movedOf
     done a offsets begins strides vb short which chosen store quadword es eq vc ev m e =
         let g : allowed (length w) origin ≡ true = sym said ∙ not-false fit passed in
-        let k = like (s .control .vlr) 64 short (bit which) (operated ins (s .control)) (addressIn a (s .elements))
+        let k = like (s .control .vlr) 64 short (bit which) (operated ins (s .control)) _ (addressIn a (s .elements))
         (chosen .ones)
         (λ i h. ap (λ (b : Bool). b && chosenBy (ins .moe) (ins .mtf) (s .control .vmr) i) (le-ltb i (s .control .vlr) h))
-        store quadword 0 vc (s .elements) w in
+        store quadword vc s w in
         let r = relative store quadword origin vc (operated ins (s .control)) (addressOf ins base stride (s .elements)) (addressIn a (s .elements))
-        (s .control .vlr) (s .elements) w
+        (s .control .vlr) s w
         (origin-straight (length w) origin g) ends-in-time
         (λ i. rw (← offsets, ← strides, ← vb) (addresses-from origin base (a .base) begins (a .offsets) (a .stride) (s .elements) (a .vb .0) i)) in
         rw (g, ← es, ← eq, ← ev) (e ∙ k ∙ r)

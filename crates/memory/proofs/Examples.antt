@@ -5,22 +5,37 @@ use mathlib.Core.List.{List, [], _∷_, _++_}
 use Prim.Native.Nat.{ℕ, _^_}
 use lib.ListN.{replicate}
 use Rattle.state.specs.declared.Control.{Control}
-use Rattle.state.specs.Answer.{answer}
-use Rattle.state.specs.State.{state}
-use Rattle.opcodes.specs.declared.Work.{Work}
-use Rattle.opcodes.specs.declared.Work.the-variants.{LoadLongword, LoadQuadword, StoreLongword}
+use Rattle.state.specs.declared.answer.Answer.the-variants.{Done, WindowRefused, Misaligned, OutsideWindow}
+use Rattle.state.specs.Outcome.{Outcome}
+use Rattle.state.specs.State.{State, state}
+use Rattle.opcodes.specs.Works.{LoadLongword, LoadQuadword, StoreLongword, rowOf}
+use Rattle.opcodes.specs.Opcodes.{workAt, rowAt}
 use Rattle.opcodes.specs.declared.Instruction.{Instruction}
 use Rattle.numbers.specs.Rising.{rising}
 use Rattle.memory.specs.Window.{allowed}
 use Rattle.memory.specs.Address.{strided, testOf, testStep}
-use Rattle.memory.specs.Move.{Moved, loadStep, storeStep, movedOf}
+use Rattle.memory.specs.Move.{loadStep, storeStep, movedOf}
 
 -- document 01, example 11: base FFFFFFFC, stride 4, element 1 is at 0
 example-11 : strided 0xFFFFFFFC 4 1 ≡ 0
 example-11 = refl
 
+-- the works, by their numbers
+numbers : (workAt 17 ≡ LoadLongword) × (workAt 18 ≡ LoadQuadword) × (workAt 19 ≡ StoreLongword)
+unfolding workAt
+numbers = (refl, refl, refl)
+
+abbrev load : ℕ
+load = 17
+
+abbrev loadQuadwords : ℕ
+loadQuadwords = 18
+
+abbrev store : ℕ
+store = 19
+
 -- with MTF set, Vb = V2 and Vc = V1
-abbrev does : Work → Bool → Bool → Instruction
+abbrev does : ℕ → Bool → Bool → Instruction
 does work offsets moe = record {
   work = work;
   scalar = offsets;
@@ -43,60 +58,39 @@ abbrev elements : List ℕ
 elements = replicate 64 0 ++ (v1 ++ (8 ∷ 0 ∷ replicate 62 0))
 
 -- what an instruction on these makes of a window at an origin
-abbrev after : Work → Bool → Bool → ℕ → ℕ → ℕ → ℕ → List ℕ → ℕ → Moved
+abbrev after : ℕ → Bool → Bool → ℕ → ℕ → ℕ → ℕ → List ℕ → ℕ → Outcome (State × List ℕ)
 after work offsets moe vlr vmr base stride w origin = movedOf (state elements (with vlr vmr)) (does work offsets moe) base stride w origin
 
 -- stride 0: the highest wins, and the other bytes are kept
-stride-0 : after StoreLongword false false 2 0 0x104 0 (9 ∷ 9 ∷ 9 ∷ 9 ∷ 9 ∷ 9 ∷ 9 ∷ 9 ∷ 9 ∷ []) 0x100 .window ≡ 9 ∷ 9 ∷ 9 ∷ 9 ∷ 2 ∷ 0 ∷ 0 ∷ 0 ∷ 9 ∷ []
-unfolding movedOf allowed testOf testStep storeStep rising
+stride-0 : after store false false 2 0 0x104 0 (9 ∷ 9 ∷ 9 ∷ 9 ∷ 9 ∷ 9 ∷ 9 ∷ 9 ∷ 9 ∷ []) 0x100 .left .1 ≡ 9 ∷ 9 ∷ 9 ∷ 9 ∷ 2 ∷ 0 ∷ 0 ∷ 0 ∷ 9 ∷ []
+unfolding movedOf rowAt rowOf workAt allowed testOf testStep storeStep rising
 stride-0 = refl
 
 -- a gather of longwords keeps the high halves
-gather : after LoadLongword true false 2 0 0x100 0 (1 ∷ 2 ∷ 3 ∷ 4 ∷ 5 ∷ 6 ∷ 7 ∷ 8 ∷ 9 ∷ 0 ∷ 0 ∷ 0 ∷ []) 0x100 .elements
+gather : after load true false 2 0 0x100 0 (1 ∷ 2 ∷ 3 ∷ 4 ∷ 5 ∷ 6 ∷ 7 ∷ 8 ∷ 9 ∷ 0 ∷ 0 ∷ 0 ∷ []) 0x100 .left .0 .elements
     ≡ replicate 64 0 ++ (0xA00000009 ∷ 0xB04030201 ∷ replicate 62 0) ++ (8 ∷ 0 ∷ replicate 62 0)
-unfolding movedOf allowed testOf testStep loadStep rising
+unfolding movedOf rowAt rowOf workAt allowed testOf testStep loadStep rising
 gather = refl
 
--- window end minus 3 and minus 4; a window that ends a byte too early; a quadword at end minus 4
-end-minus-3 : after LoadLongword false false 1 0 0x10D 0 (replicate 16 0) 0x100 .answer ≡ answer 5 0
-unfolding movedOf allowed testOf testStep loadStep rising
-end-minus-3 = refl
+-- a longword at window end minus 3 and minus 4, and in a window that ends a byte too early; a quadword at end minus 4
+at-the-end : (after load false false 1 0 0x10D 0 (replicate 16 0) 0x100 .answer ≡ Misaligned 0)
+    × (after load false false 1 0 0x10C 0 (replicate 16 0) 0x100 .answer ≡ Done 0)
+    × (after load false false 1 0 0x10C 0 (replicate 15 0) 0x100 .answer ≡ OutsideWindow 0)
+    × (after loadQuadwords false false 1 0 0x10C 0 (replicate 16 0) 0x100 .answer ≡ Misaligned 0)
+unfolding movedOf rowAt rowOf workAt allowed testOf testStep loadStep rising
+at-the-end = (refl, refl, refl, refl)
 
-end-minus-4 : after LoadLongword false false 1 0 0x10C 0 (replicate 16 0) 0x100 .answer ≡ answer 0 0
-unfolding movedOf allowed testOf testStep loadStep rising
-end-minus-4 = refl
-
-byte-short : after LoadLongword false false 1 0 0x10C 0 (replicate 15 0) 0x100 .answer ≡ answer 6 0
-unfolding movedOf allowed testOf testStep loadStep rising
-byte-short = refl
-
-quadword-end-minus-4 : after LoadQuadword false false 1 0 0x10C 0 (replicate 16 0) 0x100 .answer ≡ answer 5 0
-unfolding movedOf allowed testOf testStep loadStep rising
-quadword-end-minus-4 = refl
-
--- element 0 is outside and element 1 misaligned: the lowest is named
-lowest : after StoreLongword false false 2 0 0x110 1 (replicate 16 0) 0x100 .answer ≡ answer 6 0
-unfolding movedOf allowed testOf testStep storeStep rising
-lowest = refl
-
--- element 1 is misaligned: it is named, unless it is masked off or out of length
-element-1 : after StoreLongword false false 2 0 0x100 1 (replicate 16 0) 0x100 .answer ≡ answer 5 1
-unfolding movedOf allowed testOf testStep storeStep rising
-element-1 = refl
-
-masked-off : after StoreLongword false true 2 1 0x100 1 (replicate 16 0) 0x100 .answer ≡ answer 0 0
-unfolding movedOf allowed testOf testStep storeStep rising
-masked-off = refl
-
-out-of-length : after StoreLongword false false 1 0 0x100 1 (replicate 16 0) 0x100 .answer ≡ answer 0 0
-unfolding movedOf allowed testOf testStep storeStep rising
-out-of-length = refl
+-- element 0 is outside and element 1 misaligned: the lowest is named. Where element 1 alone is misaligned it is named, unless it
+-- is masked off or out of length
+bad-elements : (after store false false 2 0 0x110 1 (replicate 16 0) 0x100 .answer ≡ OutsideWindow 0)
+    × (after store false false 2 0 0x100 1 (replicate 16 0) 0x100 .answer ≡ Misaligned 1)
+    × (after store false true 2 1 0x100 1 (replicate 16 0) 0x100 .answer ≡ Done 0)
+    × (after store false false 1 0 0x100 1 (replicate 16 0) 0x100 .answer ≡ Done 0)
+unfolding movedOf rowAt rowOf workAt allowed testOf testStep storeStep rising
+bad-elements = (refl, refl, refl, refl)
 
 -- a window that is not allowed is refused at VLR 0 too; an empty one may stand at 2^32, and has no element
-window-refused : after StoreLongword false false 0 0 0 0 [] 4 .answer ≡ answer 4 0
-unfolding movedOf allowed
-window-refused = refl
-
-empty-window : after StoreLongword false false 1 0 0 0 [] (2 ^ 32) .answer ≡ answer 6 0
-unfolding movedOf allowed testOf testStep storeStep rising
-empty-window = refl
+windows : (after store false false 0 0 0 0 [] 4 .answer ≡ WindowRefused)
+    × (after store false false 1 0 0 0 [] (2 ^ 32) .answer ≡ OutsideWindow 0)
+unfolding movedOf rowAt rowOf workAt allowed testOf testStep storeStep rising
+windows = (refl, refl)

@@ -7,10 +7,12 @@ use native.Mathlib.Nat.{add-mul, one-mul}
 use native.Mathlib.Omega.{arith}
 use lib.ListN.{length, getD, set, length-set}
 use lib.Seq.{getD-set-same, getD-set-other}
-use Rattle.numbers.specs.Bits.{bit, withBit, withoutBit, lowestOne}
+use Rattle.numbers.specs.Bits.{bit, withBit, withoutBit}
+use Rattle.numbers.specs.Working.{lowestOne}
 use Rattle.numbers.proofs.BitLaws.{bit-kept, decEq}
 use Rattle.numbers.proofs.Tests.{true-not-false}
-use Rattle.memory.specs.Address.{strided, AddressesBelow}
+use Rattle.memory.specs.Address.{strided}
+use Rattle.memory.specs.Working.{AddressesBelow}
 
 -- one more place of a list is filled: P holds of those that were, and Q of no other but i
 module _ (P Q : ℕ → Type 0) (f : ℕ → ℕ) (l : List ℕ) (i v : ℕ) (h : i < length l) (before : (k : ℕ) → P k → getD l k 0 ≡ f k) (e : v ≡ f i)

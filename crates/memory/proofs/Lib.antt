@@ -6,5 +6,4 @@ pub mod Testing
 pub mod Moving
 pub mod Relative
 pub mod Accessing
-pub mod Gathering
 pub mod Examples

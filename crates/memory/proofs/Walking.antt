@@ -2,7 +2,8 @@
 use mathlib.Core.Path.{_≡_}
 use mathlib.Core.Bool.{true}
 use Prim.Native.Nat.{ℕ, _<_}
-use Rattle.numbers.specs.Bits.{bit, withoutBit, lowestOne}
+use Rattle.numbers.specs.Bits.{bit, withoutBit}
+use Rattle.numbers.specs.Working.{lowestOne}
 use Rattle.numbers.proofs.SetBits.{Walk, index-below, index-one, less-left, turns-walk}
 
 -- one turn, at the lowest one

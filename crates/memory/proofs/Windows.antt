@@ -22,13 +22,11 @@ room bytes origin h false e = sym (lt-leb (origin + bytes) (2 ^ 32) (let k = leb
 
 pub too-long : (bytes origin : ℕ) → 65536 < bytes → false ≡ allowed bytes origin
 unfolding allowed
-too-long bytes origin h = sym (ap (λ (b : Bool). b && eqb (origin % 8) 0 && leb (origin + bytes) (2 ^ 32)) (lt-leb bytes 65536 h))
+too-long bytes origin h = let l = lt-leb bytes 65536 h in rw l
 
 pub allows : (bytes origin : ℕ) → bytes ≤ 65536 → (eqb (origin % 8) 0 && leb origin (2 ^ 32 - bytes)) ≡ allowed bytes origin
 unfolding allowed
-allows bytes origin h =
-    ap (λ (b : Bool). eqb (origin % 8) 0 && b) (room bytes origin h _ refl)
-    ∙ sym (ap (λ (b : Bool). b && eqb (origin % 8) 0 && leb (origin + bytes) (2 ^ 32)) (le-leb bytes 65536 h))
+allows bytes origin h = let l = le-leb bytes 65536 h in rw (l, room bytes origin h _ refl)
 
 -- an allowed window ends at 2^32 at the latest
 pub ends-within : (bytes origin : ℕ) → allowed bytes origin ≡ true → origin + bytes ≤ 2 ^ 32
@@ -39,11 +37,11 @@ ends-within bytes origin e = leb-true (origin + bytes) (2 ^ 32) (and-right (leb 
 pub origin-straight : (bytes origin : ℕ) → allowed bytes origin ≡ true → origin % 8 ≡ 0
 unfolding allowed
 origin-straight bytes origin e =
-    eqb-true (origin % 8) 0 (and-right (leb bytes 65536) (eqb (origin % 8) 0) (and-left (leb bytes 65536 && eqb (origin % 8) 0) (leb (origin + bytes) (2 ^ 32)) e))
+    eqb-true (origin % 8) 0 (and-right (leb bytes 65536) _ (and-left _ (leb (origin + bytes) (2 ^ 32)) e))
 
 -- a part of size bytes that was lent and came back as a number's bytes
 pub put : (size : ℕ) (w part : List ℕ) (offset v : ℕ) → part ≡ bytesOf size v → putMid offset (offset + size - offset) w part ≡ putAt size w offset v
 put size w part offset v e =
     let n : length (bytesOf size v) ≡ size = bytes-length size v in
     let k : length part ≡ offset + size - offset = ap length e ∙ omega arith in
-    part-over w offset (offset + size) part (omega arith) k ∙ ap (λ (l : List ℕ). over w offset l) e
+    part-over w offset (offset + size) part (omega arith) k ∙ ap (over w offset) e

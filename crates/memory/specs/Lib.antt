@@ -3,3 +3,4 @@ pub mod Works
 pub mod Window
 pub mod Address
 pub mod Move
+pub mod Working

@@ -1,57 +1,16 @@
--- Document 01, "Opcodes": loads and gathers, stores and scatters, of longwords and of quadwords. No other work moves memory, and none other is
--- asked about here.
-use mathlib.Core.Bool.{Bool, true, false}
+-- Document 01, "Opcodes": loads and gathers, stores and scatters, of longwords and of quadwords, read off the row of the work that has the number.
+use mathlib.Core.Bool.{Bool}
 use Prim.Native.Nat.{ℕ}
+use lib.Dec.{eqb}
 use Rattle.numbers.specs.Choice.{pick}
-use Rattle.opcodes.specs.declared.Work.{Work}
-use Rattle.opcodes.specs.declared.Work.the-variants.{AddLongword, SubtractLongword, MultiplyLongword, CompareLongword, BitSet, ExclusiveOr, BitClear, ShiftRight, ShiftLeft, AddF, SubtractF, MultiplyF, CompareF, Convert, Iota, Merge, LoadLongword, LoadQuadword, StoreLongword, StoreQuadword, DivideF}
+use Rattle.opcodes.specs.Works.{isStore as movesOut, sizeOf as bytesMoved}
+use Rattle.opcodes.specs.Opcodes.{rowAt}
 
--- stores and scatters
-abbrev pub isStore : Work → Bool
-isStore AddLongword = false
-isStore SubtractLongword = false
-isStore MultiplyLongword = false
-isStore CompareLongword = false
-isStore BitSet = false
-isStore ExclusiveOr = false
-isStore BitClear = false
-isStore ShiftRight = false
-isStore ShiftLeft = false
-isStore AddF = false
-isStore SubtractF = false
-isStore MultiplyF = false
-isStore CompareF = false
-isStore Convert = false
-isStore Iota = false
-isStore Merge = false
-isStore LoadLongword = false
-isStore LoadQuadword = false
-isStore StoreLongword = true
-isStore StoreQuadword = true
-isStore DivideF = false
+abbrev pub isStore : ℕ → Bool
+isStore work = movesOut (rowAt work .moves)
 
-abbrev pub isQuadword : Work → Bool
-isQuadword AddLongword = false
-isQuadword SubtractLongword = false
-isQuadword MultiplyLongword = false
-isQuadword CompareLongword = false
-isQuadword BitSet = false
-isQuadword ExclusiveOr = false
-isQuadword BitClear = false
-isQuadword ShiftRight = false
-isQuadword ShiftLeft = false
-isQuadword AddF = false
-isQuadword SubtractF = false
-isQuadword MultiplyF = false
-isQuadword CompareF = false
-isQuadword Convert = false
-isQuadword Iota = false
-isQuadword Merge = false
-isQuadword LoadLongword = false
-isQuadword LoadQuadword = true
-isQuadword StoreLongword = false
-isQuadword StoreQuadword = true
-isQuadword DivideF = false
+abbrev pub isQuadword : ℕ → Bool
+isQuadword work = eqb (bytesMoved (rowAt work .moves)) 8
 
 -- how many bytes an element moves: a quadword eight, a longword four
 abbrev pub sizeOf : Bool → ℕ

@@ -6,7 +6,8 @@ use state::Register;
 ghost use mathlib.Core.Path.{_≡_};
 ghost use Prim.Native.Nat.{_≤_, _<_};
 ghost use lib.ListN.{length};
-ghost use Rattle.memory.specs.Address.{strided as stridedOf, offsetBy, addressIn, AddressesBelow};
+ghost use Rattle.memory.specs.Address.{strided as stridedOf, offsetBy};
+ghost use Rattle.memory.specs.Working.{addressIn, AddressesBelow};
 
 // The address of an element by the offset that a register holds.
 fn by_offset(elements: &[u64; 1024], base: u32, vb: Register, i: Element) -> u32

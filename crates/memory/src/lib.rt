@@ -1,14 +1,20 @@
 // Memory instructions over the lent elements and the lent window.
 use opcodes::Instruction;
+use opcodes::works;
 use state::Control;
 use state::Register;
+use state::answer;
+use state::answer::Answer;
+use state::answer::Ended;
 ghost use mathlib.Core.Path.{_≡_};
-ghost use Prim.Native.Nat.{_+_, _^_, _≤_, _<_};
+ghost use Prim.Native.Nat.{_^_, _≤_, _<_};
 ghost use lib.ListN.{length};
 ghost use Rattle.numbers.specs.Bits.{bit};
+ghost use Rattle.state.specs.Outcome.{outcome};
 ghost use Rattle.state.specs.State.{state};
-ghost use Rattle.memory.specs.Address.{addressIn};
-ghost use Rattle.memory.specs.Move.{moved, movedBy, movedOf};
+ghost use Rattle.memory.specs.Works.{sizeOf};
+ghost use Rattle.memory.specs.Working.{addressIn, testsAt};
+ghost use Rattle.memory.specs.Move.{badElement, movedBy, movedOf};
 
 mod addresses;
 mod loads;
@@ -16,21 +22,23 @@ mod moves;
 mod stores;
 mod tests;
 mod window;
-mod works;
 
-// What the test of one element finds.
-pub enum Test {
-    Fine,
+// What makes an element bad.
+enum Fault {
     Misaligned,
     Outside,
 }
 
-// How a memory instruction ends; a bad element is named.
-pub enum Access {
-    Done,
-    WindowRefused,
-    Misaligned(u64),
-    OutsideWindow(u64),
+// The test of one element.
+enum Test {
+    Fine,
+    Bad(Fault),
+}
+
+// The tests of all operated elements: the lowest bad one is named.
+enum Search {
+    Fine,
+    Bad(Fault, u64),
 }
 
 // How the addresses of the elements are said: by offsets from Vb or by a stride, from a base.
@@ -41,46 +49,51 @@ struct Addressing {
     pub vb: Register,
 }
 
+// The answer for a bad element.
+fn bad_element(fault: Fault, element: u64) -> Answer
+    ensures { λ r. ⌜ r ≡ badElement fault element ⌝ }
+{
+    match fault {
+        Fault::Misaligned => Answer::Misaligned(element),
+        Fault::Outside => Answer::OutsideWindow(element),
+    }
+}
+
 // Tests the elements of a set of numbers below n, and moves them if all are fine.
 fn all_or_none(
     elements: &mut [u64; 1024],
+    control: Control,
     window: &mut [u8],
     addressing: Addressing,
     store: bool,
     which: u64,
     quadword: bool,
-    origin: u64,
     vc: Register,
     n: usize,
-) -> Access
-    requires { ⌜ (addressing .vb .0 < 16) × (vc .0 < 16) × (n ≤ 64) × (which < 2 ^ n) × (origin + length (now window) ≤ 2 ^ 32) ⌝ }
-    ensures { λ r. ⌜ moved r (now (elements .exit)) (now (window .exit)) ≡ movedBy store quadword origin (vc .0) (bit which) (addressIn addressing (now (elements .entry))) 64 (now (elements .entry)) (now (window .entry)) ⌝ }
+) -> Ended
+    requires { ⌜ (addressing .vb .0 < 16) × (vc .0 < 16) × (n ≤ 64) × (which < 2 ^ n) × (length (now window) ≤ 2 ^ 32) ⌝ }
+    ensures { λ r. ⌜ outcome (r .answer) (state (now (elements .exit)) (r .control), now (window .exit)) ≡ movedBy store quadword (vc .0) (bit which) (testsAt (sizeOf quadword) (length (now (window .entry))) (addressIn addressing (now (elements .entry)))) (addressIn addressing (now (elements .entry))) 64 (state (now (elements .entry)) control) (now (window .entry)) ⌝ }
 {
     let mut addresses = [0u32; 64];
-    let access = tests::tested(
+    let found = tests::tested(
         &mut addresses,
         elements,
         addressing,
         which,
         quadword,
-        origin,
         window.len() as u64,
         n,
     );
-    let Access::Done = access else {
-        return access;
-    };
-    moves::all(
-        elements,
-        window,
-        &addresses,
-        store,
-        which,
-        quadword,
-        origin,
-        vc,
-    );
-    Access::Done
+    match found {
+        Search::Fine => {
+            moves::all(elements, window, &addresses, store, which, quadword, vc);
+            Ended {
+                answer: Answer::Done(0),
+                control,
+            }
+        }
+        Search::Bad(fault, element) => answer::refused(bad_element(fault, element), control),
+    }
 }
 
 // Loads, stores, gathers or scatters. The window is tested first, then every operated element; only if all are fine is anything moved.
@@ -92,12 +105,12 @@ pub fn transfer(
     stride: u32,
     window: &mut [u8],
     origin: u64,
-) -> Access
+) -> Ended
     requires { ⌜ (instruction .vb .0 < 16) × (instruction .vc .0 < 16) × (control .vlr ≤ 64) ⌝ }
-    ensures { λ r. ⌜ moved r (now (elements .exit)) (now (window .exit)) ≡ movedOf (state (now (elements .entry)) control) instruction base stride (now (window .entry)) origin ⌝ }
+    ensures { λ r. ⌜ outcome (r .answer) (state (now (elements .exit)) (r .control), now (window .exit)) ≡ movedOf (state (now (elements .entry)) control) instruction base stride (now (window .entry)) origin ⌝ }
 {
     if !window::allowed(window.len() as u64, origin) {
-        return Access::WindowRefused;
+        return answer::refused(Answer::WindowRefused, control);
     }
     let work = instruction.work;
     let n = control.vlr as usize;
@@ -117,12 +130,12 @@ pub fn transfer(
     };
     all_or_none(
         elements,
+        control,
         window,
         addressing,
         works::is_store(work),
         which,
         works::is_quadword(work),
-        0,
         Register(instruction.vc.0 as usize),
         n,
     )

@@ -2,7 +2,7 @@
 use state::Element;
 use state::Register;
 ghost use mathlib.Core.Path.{_≡_};
-ghost use Prim.Native.Nat.{_+_, _-_, _≤_, _<_};
+ghost use Prim.Native.Nat.{_+_, _≤_, _<_};
 ghost use lib.ListN.{length, getD, set};
 ghost use Rattle.numbers.specs.Bits.{bit};
 ghost use Rattle.numbers.specs.Rising.{rising};
@@ -10,7 +10,7 @@ ghost use Rattle.state.specs.State.{placeOf};
 ghost use Rattle.state.specs.Elements.{at};
 ghost use Rattle.memory.specs.Works.{sizeOf};
 ghost use Rattle.memory.specs.Window.{numberAt};
-ghost use Rattle.memory.specs.Address.{Within, AllWithin};
+ghost use Rattle.memory.specs.Working.{Within, AllWithin};
 ghost use Rattle.memory.specs.Move.{received, loadStep};
 
 // What an element receives of the window.
@@ -32,14 +32,13 @@ fn load_one(
     window: &[u8],
     address: u32,
     quadword: bool,
-    origin: u64,
     vc: Register,
     i: Element,
 )
-    requires { ⌜ (vc .0 < 16) × (i .0 < 64) × Within (sizeOf quadword) origin (origin + length (now window)) address ⌝ }
-    ensures { λ _. ⌜ now (elements .exit) ≡ set (now (elements .entry)) (placeOf (vc .0) (i .0)) (received quadword (at (now (elements .entry)) (vc .0) (i .0)) (numberAt (sizeOf quadword) (now (window .entry)) (address - origin))) ⌝ }
+    requires { ⌜ (vc .0 < 16) × (i .0 < 64) × Within (sizeOf quadword) (length (now window)) address ⌝ }
+    ensures { λ _. ⌜ now (elements .exit) ≡ set (now (elements .entry)) (placeOf (vc .0) (i .0)) (received quadword (at (now (elements .entry)) (vc .0) (i .0)) (numberAt (sizeOf quadword) (now (window .entry)) address)) ⌝ }
 {
-    let offset = crate::window::offset_of(address, origin);
+    let offset = address as usize;
     let to = state::place(vc, i);
     elements[to] = fetched(window, offset, quadword, elements[to]);
 }
@@ -51,11 +50,10 @@ pub(crate) fn load(
     addresses: &[u32; 64],
     which: u64,
     quadword: bool,
-    origin: u64,
     vc: Register,
 )
-    requires { ⌜ (vc .0 < 16) × AllWithin (sizeOf quadword) origin (origin + length (now window)) (bit which) (λ k. getD (now addresses) k 0) 64 ⌝ }
-    ensures { λ _. ⌜ now (elements .exit) ≡ rising (loadStep quadword origin (vc .0) (bit which) (λ k. getD (now (addresses .entry)) k 0) (now (window .entry))) 64 (now (elements .entry)) ⌝ }
+    requires { ⌜ (vc .0 < 16) × AllWithin (sizeOf quadword) (length (now window)) (bit which) (λ k. getD (now addresses) k 0) 64 ⌝ }
+    ensures { λ _. ⌜ now (elements .exit) ≡ rising (loadStep quadword (vc .0) (bit which) (λ k. getD (now (addresses .entry)) k 0) (now (window .entry))) 64 (now (elements .entry)) ⌝ }
 {
     let mut left = which;
     while left != 0 {
@@ -65,7 +63,6 @@ pub(crate) fn load(
             window,
             addresses[i],
             quadword,
-            origin,
             vc,
             Element(i),
         );

@@ -1,13 +1,12 @@
 // What a memory instruction moves, once all operated elements are tested.
 use state::Register;
 ghost use mathlib.Core.Path.{_≡_};
-ghost use Prim.Native.Nat.{_+_, _<_};
+ghost use Prim.Native.Nat.{_<_};
 ghost use lib.ListN.{length, getD};
 ghost use Rattle.numbers.specs.Bits.{bit};
 ghost use Rattle.memory.specs.Works.{sizeOf};
-ghost use Rattle.memory.specs.Address.{AllWithin};
-ghost use Rattle.memory.specs.Move.{moved, movesBy};
-ghost use Rattle.memory.specs.declared.Access.the-variants.{Done};
+ghost use Rattle.memory.specs.Working.{AllWithin};
+ghost use Rattle.memory.specs.Move.{movesBy};
 
 // Moves the elements of a set, in rising order.
 pub(crate) fn all(
@@ -17,15 +16,14 @@ pub(crate) fn all(
     to_window: bool,
     which: u64,
     quadword: bool,
-    origin: u64,
     vc: Register,
 )
-    requires { ⌜ (vc .0 < 16) × AllWithin (sizeOf quadword) origin (origin + length (now window)) (bit which) (λ k. getD (now addresses) k 0) 64 ⌝ }
-    ensures { λ _. ⌜ moved Done (now (elements .exit)) (now (window .exit)) ≡ movesBy «to_window» quadword origin (vc .0) (bit which) (λ k. getD (now (addresses .entry)) k 0) 64 (now (elements .entry)) (now (window .entry)) ⌝ }
+    requires { ⌜ (vc .0 < 16) × AllWithin (sizeOf quadword) (length (now window)) (bit which) (λ k. getD (now addresses) k 0) 64 ⌝ }
+    ensures { λ _. ⌜ (now (elements .exit), now (window .exit)) ≡ movesBy «to_window» quadword (vc .0) (bit which) (λ k. getD (now (addresses .entry)) k 0) 64 (now (elements .entry)) (now (window .entry)) ⌝ }
 {
     if to_window {
-        crate::stores::store(window, elements, addresses, which, quadword, origin, vc);
+        crate::stores::store(window, elements, addresses, which, quadword, vc);
     } else {
-        crate::loads::load(elements, window, addresses, which, quadword, origin, vc);
+        crate::loads::load(elements, window, addresses, which, quadword, vc);
     }
 }

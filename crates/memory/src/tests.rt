@@ -1,6 +1,7 @@
-// The tests of the operated elements. An address is worked out when it is tested, and kept for the move.
-use crate::Access;
+// The tests of the operated elements. An address is worked out when it is tested, and kept for the move. Here and below the window stands at 0.
 use crate::Addressing;
+use crate::Fault;
+use crate::Search;
 use crate::Test;
 use state::Element;
 ghost use mathlib.Core.Path.{_≡_};
@@ -9,7 +10,7 @@ ghost use Prim.Native.Nat.{ℕ, _+_, _-_, _^_, _≤_, _<_, _%_, max};
 ghost use lib.ListN.{length, getD};
 ghost use lib.Dec.{eqb};
 ghost use Rattle.memory.specs.Works.{sizeOf};
-ghost use Rattle.memory.specs.Address.{addressIn, AddressesBelow, testOf, Searched};
+ghost use Rattle.memory.specs.Working.{addressIn, AddressesBelow, testAt, testsAt, Searched};
 ghost use Rattle.memory.specs.declared.Test.the-variants.{Fine};
 
 // How many bytes an element moves.
@@ -31,19 +32,19 @@ fn aligned(address: u32, quadword: bool) -> bool
 }
 
 // The test of one element: alignment, then the window.
-fn one(address: u32, quadword: bool, origin: u64, end: u64) -> Test
-    ensures { λ r. ⌜ r ≡ testOf (sizeOf quadword) origin end address ⌝ }
+fn one(address: u32, quadword: bool, bytes: u64) -> Test
+    ensures { λ r. ⌜ r ≡ testAt (sizeOf quadword) bytes address ⌝ }
 {
     let straight = aligned(address, quadword);
     let start = address as u64;
-    let inside = (origin <= start) & (start + size(quadword) <= end);
+    let inside = start + size(quadword) <= bytes;
     if straight & inside {
         return Test::Fine;
     }
     if straight {
-        return Test::Outside;
+        return Test::Bad(Fault::Outside);
     }
-    Test::Misaligned
+    Test::Bad(Fault::Misaligned)
 }
 
 // The lowest bad element of a set. The address of each one that is looked at is worked out and kept, and of no other.
@@ -53,30 +54,26 @@ fn search(
     addressing: Addressing,
     which: u64,
     quadword: bool,
-    origin: u64,
-    end: u64,
-) -> Access
+    bytes: u64,
+) -> Search
     requires { ⌜ (addressing .vb .0 < 16) × (length (now addresses) ≡ 64) ⌝ }
-    ensures { λ r. ⌜ Searched (sizeOf quadword) origin end which (addressIn addressing (now (elements .entry))) r (now (addresses .exit)) ⌝ }
+    ensures { λ r. ⌜ Searched (sizeOf quadword) bytes which (addressIn addressing (now (elements .entry))) r (now (addresses .exit)) ⌝ }
 {
     let mut left = which;
     while left != 0 {
         let i = numbers::bits::lowest(left);
         let address = crate::addresses::of_element(elements, addressing, Element(i));
-        let test = one(address, quadword, origin, end);
+        let test = one(address, quadword, bytes);
         addresses[i] = address;
         match test {
             Test::Fine => {}
-            Test::Misaligned => {
-                return Access::Misaligned(i as u64);
-            }
-            Test::Outside => {
-                return Access::OutsideWindow(i as u64);
+            Test::Bad(fault) => {
+                return Search::Bad(fault, i as u64);
             }
         }
         left = numbers::bits::without_lowest(left);
     }
-    Access::Done
+    Search::Fine
 }
 
 // The larger of two numbers.
@@ -96,23 +93,22 @@ fn room(bytes: u64, quadword: bool) -> u32
 }
 
 // An element is fine: by tests of 32 bits and no branch, so that the machine does several at once.
-fn fine(address: u32, quadword: bool, origin: u64, bytes: u64) -> bool
-    requires { ⌜ origin + bytes ≤ 2 ^ 32 ⌝ }
-    ensures { λ r. ⌜ (r ≡ true → testOf (sizeOf quadword) origin (origin + bytes) address ≡ Fine) ⌝ }
+fn fine(address: u32, quadword: bool, bytes: u64) -> bool
+    requires { ⌜ bytes ≤ 2 ^ 32 ⌝ }
+    ensures { λ r. ⌜ (r ≡ true → testAt (sizeOf quadword) bytes address ≡ Fine) ⌝ }
 {
-    let offset = std::num::wrapping_sub_u32(address, (origin % 4294967296) as u32);
-    aligned(address, quadword) & (offset < room(bytes, quadword))
+    aligned(address, quadword) & (address < room(bytes, quadword))
 }
 
 // All elements below n are fine.
-fn all_fine(addresses: &[u32; 64], quadword: bool, origin: u64, bytes: u64, n: usize) -> bool
-    requires { ⌜ (n ≤ 64) × (origin + bytes ≤ 2 ^ 32) ⌝ }
-    ensures { λ r. ⌜ (r ≡ true → (i : ℕ) → i < n → testOf (sizeOf quadword) origin (origin + bytes) (getD (now (addresses .entry)) i 0) ≡ Fine) ⌝ }
+fn all_fine(addresses: &[u32; 64], quadword: bool, bytes: u64, n: usize) -> bool
+    requires { ⌜ (n ≤ 64) × (bytes ≤ 2 ^ 32) ⌝ }
+    ensures { λ r. ⌜ (r ≡ true → (i : ℕ) → i < n → testAt (sizeOf quadword) bytes (getD (now (addresses .entry)) i 0) ≡ Fine) ⌝ }
 {
     let mut all = true;
     let mut i: usize = 0;
     while i < n {
-        all = all & fine(addresses[i], quadword, origin, bytes);
+        all = all & fine(addresses[i], quadword, bytes);
         i += 1;
     }
     all
@@ -125,18 +121,17 @@ fn all_at_once(
     addressing: Addressing,
     which: u64,
     quadword: bool,
-    origin: u64,
     bytes: u64,
     n: usize,
 ) -> bool
-    requires { ⌜ (addressing .vb .0 < 16) × (n ≤ 64) × (origin + bytes ≤ 2 ^ 32) × (length (now addresses) ≡ 64) ⌝ }
-    ensures { λ r. ⌜ (length (now (addresses .exit)) ≡ 64) × (r ≡ true → AddressesBelow (addressIn addressing (now (elements .entry))) n (now (addresses .exit)) × ((i : ℕ) → i < n → testOf (sizeOf quadword) origin (origin + bytes) (addressIn addressing (now (elements .entry)) i) ≡ Fine)) ⌝ }
+    requires { ⌜ (addressing .vb .0 < 16) × (n ≤ 64) × (bytes ≤ 2 ^ 32) × (length (now addresses) ≡ 64) ⌝ }
+    ensures { λ r. ⌜ (length (now (addresses .exit)) ≡ 64) × (r ≡ true → AddressesBelow (addressIn addressing (now (elements .entry))) n (now (addresses .exit)) × ((i : ℕ) → i < n → testsAt (sizeOf quadword) bytes (addressIn addressing (now (elements .entry))) i ≡ Fine)) ⌝ }
 {
     if which != numbers::bits::low_bits(18446744073709551615, n as u64) {
         return false;
     }
     crate::addresses::of_all(&mut *addresses, elements, addressing, n);
-    all_fine(addresses, quadword, origin, bytes, n)
+    all_fine(addresses, quadword, bytes, n)
 }
 
 // The lowest bad element of a set of numbers below n. As a rule all are operated on and fine, which is told fast; else each of the set is
@@ -147,12 +142,11 @@ pub(crate) fn tested(
     addressing: Addressing,
     which: u64,
     quadword: bool,
-    origin: u64,
     bytes: u64,
     n: usize,
-) -> Access
-    requires { ⌜ (addressing .vb .0 < 16) × (n ≤ 64) × (which < 2 ^ n) × (origin + bytes ≤ 2 ^ 32) × (length (now addresses) ≡ 64) ⌝ }
-    ensures { λ r. ⌜ Searched (sizeOf quadword) origin (origin + bytes) which (addressIn addressing (now (elements .entry))) r (now (addresses .exit)) ⌝ }
+) -> Search
+    requires { ⌜ (addressing .vb .0 < 16) × (n ≤ 64) × (which < 2 ^ n) × (bytes ≤ 2 ^ 32) × (length (now addresses) ≡ 64) ⌝ }
+    ensures { λ r. ⌜ Searched (sizeOf quadword) bytes which (addressIn addressing (now (elements .entry))) r (now (addresses .exit)) ⌝ }
 {
     if all_at_once(
         &mut *addresses,
@@ -160,19 +154,10 @@ pub(crate) fn tested(
         addressing,
         which,
         quadword,
-        origin,
         bytes,
         n,
     ) {
-        return Access::Done;
+        return Search::Fine;
     }
-    search(
-        addresses,
-        elements,
-        addressing,
-        which,
-        quadword,
-        origin,
-        origin + bytes,
-    )
+    search(addresses, elements, addressing, which, quadword, bytes)
 }

@@ -1,6 +1,5 @@
 // The window: whether it is allowed, and what is written into it.
 ghost use mathlib.Core.Path.{_≡_};
-ghost use Prim.Native.Nat.{_-_, _≤_};
 ghost use lib.ListN.{length};
 ghost use Rattle.numbers.specs.Bytes.{bytesOf};
 ghost use Rattle.memory.specs.Window.{allowed as allowedOf};
@@ -13,14 +12,6 @@ pub(crate) fn allowed(bytes: u64, origin: u64) -> bool
         return false;
     }
     (origin % 8 == 0) & (origin <= 4294967296 - bytes)
-}
-
-// Where an element's bytes begin in the window.
-pub(crate) fn offset_of(address: u32, origin: u64) -> usize
-    requires { ⌜ origin ≤ address ⌝ }
-    ensures { λ r. ⌜ r ≡ address - origin ⌝ }
-{
-    (address as u64 - origin) as usize
 }
 
 // Writes a longword, the low half of v, into four bytes.

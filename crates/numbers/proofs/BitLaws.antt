@@ -4,7 +4,8 @@ use mathlib.Core.Path.{_≡_, refl, sym, ap, ap₂, _∙_, subst}
 use mathlib.Core.Bool.{Bool, false, not, _&&_}
 use mathlib.Core.Logic.{⊎-elim}
 use Prim.Native.Nat.{ℕ, zero, suc, _+_, _-_, _*_, _/_, _%_, _^_, _≤_, _<_, max}
-use native.Mathlib.Nat.{le-trans, lt-of-lt-of-le, div-eq-of-lt, mod-lt, mod-le, mul-le-mul-right, div-mul-le-self, add-mul, pow-suc, one-mul, div-add-mod', div-lt-iff-lt-mul, mod-one, div-one, zero-div, add-comm}
+use native.Mathlib.Nat.{le-trans, lt-of-lt-of-le, div-eq-of-lt, mod-lt, mod-le, mul-le-mul-right, div-mul-le-self, add-mul}
+use native.Mathlib.Nat.{pow-suc, one-mul, div-add-mod', div-lt-iff-lt-mul, mod-one, div-one, zero-div, add-comm}
 use native.Mathlib.Omega.{arith}
 use native.Mathlib.Decide.{decLt}
 use native.Mathlib.Numerals.{add-one}
@@ -14,7 +15,8 @@ use lib.Pow.{pow-pos, pow-mono, pow-add, split, high, low, field, mod-mod-pow, m
 use lib.Count.{ones, ones-cat}
 use lib.Dec.{lit<, ltb, eqb, eqb·suc-zero}
 use borrow.Author.Tests.{ne-eqb, lt-ltb, le-ltb}
-use Rattle.numbers.specs.Bits.{bit, withBit, lowBits, complement}
+use Rattle.numbers.specs.Bits.{bit, withBit}
+use Rattle.numbers.specs.Working.{lowBits, complement}
 use Rattle.numbers.specs.Choice.{pick}
 use Rattle.numbers.proofs.Tests.{below-or-not}
 
@@ -207,17 +209,6 @@ module _ (x i v : ℕ) where
         top : x / 2 ^ i < 2 ^ (n - suc i) * 2
         top = subst (λ (k : ℕ). x / 2 ^ i < k) (pow-suc 2 (n - suc i)) (shr-lt (suc (n - suc i)) i (subst (λ (k : ℕ). x < 2 ^ k) n-is small))
 
--- a bit replaced by itself
-pub with-bit-same : (x i : ℕ) → withBit x i (digit x i) ≡ x
-with-bit-same x i = with-bit x i (digit x i) ∙ ap (λ (n : ℕ). n * 2 ^ i + x % 2 ^ i) (div-add-mod' (x / 2 ^ i) 2) ∙ split x i
-
--- replaced twice: the last counts
-pub with-bit-twice : (x i v w : ℕ) → v < 2 → withBit (withBit x i v) i w ≡ withBit x i w
-with-bit-twice x i v w one =
-    with-bit (withBit x i v) i w
-    ∙ ap₂ (λ (n r : ℕ). (n * 2 + w) * 2 ^ i + r) (ap (λ (n : ℕ). n / 2) (above x i v) ∙ digits-div (x / 2 ^ i / 2) one) (below x i v)
-    ∙ sym (with-bit x i w)
-
 -- two places are the same or not
 pub decEq : (a b : ℕ) → Dec (a ≡ b)
 decEq a b = go (decLt a b) (decLt b a)
@@ -226,26 +217,6 @@ decEq a b = go (decLt a b) (decLt b a)
     go (yes h) _ = no (λ e. omega arith)
     go (no _) (yes h) = no (λ e. omega arith)
     go (no p) (no q) = yes (omega arith)
-
--- two bits replaced, in either order
-pub with-bits-commute : (x i j v w : ℕ) → v < 2 → w < 2 → (i ≡ j → ⊥) → withBit (withBit x i v) j w ≡ withBit (withBit x j w) i v
-with-bits-commute x i j v w v1 w1 other = same-digits _ _ (λ k. at k (decEq k i) (decEq k j))
-  where
-    at : (k : ℕ) → Dec (k ≡ i) → Dec (k ≡ j) → digit (withBit (withBit x i v) j w) k ≡ digit (withBit (withBit x j w) i v) k
-    at k (yes p) (yes q) = absurd (other (sym p ∙ q))
-    at k (yes p) (no q) =
-        digit-kept (withBit x i v) j w w1 k q
-        ∙ subst (λ (n : ℕ). digit (withBit x i v) n ≡ v) (sym p) (digit-replaced x i v v1)
-        ∙ sym (subst (λ (n : ℕ). digit (withBit (withBit x j w) i v) n ≡ v) (sym p) (digit-replaced (withBit x j w) i v v1))
-    at k (no p) (yes q) =
-        subst (λ (n : ℕ). digit (withBit (withBit x i v) j w) n ≡ w) (sym q) (digit-replaced (withBit x i v) j w w1)
-        ∙ sym (subst (λ (n : ℕ). digit (withBit x j w) n ≡ w) (sym q) (digit-replaced x j w w1))
-        ∙ sym (digit-kept (withBit x j w) i v v1 k p)
-    at k (no p) (no q) =
-        digit-kept (withBit x i v) j w w1 k q
-        ∙ digit-kept x i v v1 k p
-        ∙ sym (digit-kept x j w w1 k q)
-        ∙ sym (digit-kept (withBit x j w) i v v1 k p)
 
 -- ---- one bit replaced in a word of w bits, where a shift loses what goes past its end
 
@@ -287,7 +258,9 @@ or-assoc =
 -- nothing was gathered exactly where nothing was to gather
 pub or-none : (a b : ℕ) → eqb (bitOr a b) 0 ≡ (eqb a 0 && eqb b 0)
 or-none zero b = ap (λ (n : ℕ). eqb n 0) (or-zero-l b)
-or-none (suc a) b = ne-eqb (bitOr (suc a) b) 0 (some (or-add-and (suc a) b) (and-le-r (suc a) b)) ∙ ap (λ (t : Bool). t && eqb b 0) (sym (eqb·suc-zero a))
+or-none (suc a) b =
+    ne-eqb (bitOr (suc a) b) 0 (some (or-add-and (suc a) b) (and-le-r (suc a) b))
+    ∙ ap (λ (t : Bool). t && eqb b 0) (sym (eqb·suc-zero a))
   where
     some : bitOr (suc a) b + bitAnd (suc a) b ≡ suc a + b → bitAnd (suc a) b ≤ b → bitOr (suc a) b ≡ 0 → ⊥
     some p q e = omega arith

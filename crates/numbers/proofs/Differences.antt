@@ -127,14 +127,14 @@ pub overflows-of : (p n : ℕ) (t : Bool) → Range p n t → overflows (subℕ 
 overflows-of p n t r = judged p n t (form p n) r
 
 -- ---- a longword: x, with its top bit turned, less 2^31
-turned : (x : ℕ) → x < 2 ^ 32 → (t : Bool) → ltb x (2 ^ 31) ≡ t → signed x ≡ subℕ ((x + 2 ^ 31) % 2 ^ 32) (2 ^ 31)
+signed-by : (x : ℕ) → x < 2 ^ 32 → (t : Bool) → ltb x (2 ^ 31) ≡ t → signed x ≡ subℕ ((x + 2 ^ 31) % 2 ^ 32) (2 ^ 31)
 unfolding signed
-turned x h true e = let i = ltb-true x (2 ^ 31) e in rw e (sym (sub-pos ((x + 2 ^ 31) % 2 ^ 32) (2 ^ 31) x (omega arith)))
-turned x h false e =
+signed-by x h true e = let i = ltb-true x (2 ^ 31) e in rw e (sym (sub-pos ((x + 2 ^ 31) % 2 ^ 32) (2 ^ 31) x (omega arith)))
+signed-by x h false e =
     let i = ltb-false x (2 ^ 31) e in rw e (same x (2 ^ 32) ((x + 2 ^ 31) % 2 ^ 32) (2 ^ 31) (omega arith))
 
 pub signed-of : (x : ℕ) → x < 2 ^ 32 → signed x ≡ subℕ ((x + 2 ^ 31) % 2 ^ 32) (2 ^ 31)
-signed-of x h = turned x h (ltb x (2 ^ 31)) refl
+signed-of x h = signed-by x h (ltb x (2 ^ 31)) refl
 
 -- and: x, less 2^32 where its top bit is set
 pub signed-top : (x : ℕ) → x < 2 ^ 32 → signed x ≡ subℕ x (x / 2 ^ 31 * 2 ^ 32)

@@ -40,7 +40,8 @@ alike f g (suc n) a h =
     ap (f n) e ∙ h n (rising g n a) (omega arith)
 
 -- steps that are alike from k on
-pub grows : {A : Type 0} (f g : ℕ → A → A) (k n : ℕ) (a b : A) → k ≤ n → ((i : ℕ) (x : A) → k ≤ i → f i x ≡ g i x) → rising f k a ≡ rising g k b → rising f n a ≡ rising g n b
+pub grows : {A : Type 0} (f g : ℕ → A → A) (k n : ℕ) (a b : A) → k ≤ n → ((i : ℕ) (x : A) → k ≤ i → f i x ≡ g i x)
+    → rising f k a ≡ rising g k b → rising f n a ≡ rising g n b
 unfolding rising
 grows f g k n a b h s e = let j : n ≡ n - k + k = omega arith in rw j (on (n - k))
   where
@@ -49,11 +50,13 @@ grows f g k n a b h s e = let j : n ≡ n - k + k = omega arith in rw j (on (n -
     on (suc m) = let j : suc m + k ≡ suc (m + k) = omega arith in rw j (ap (f (m + k)) (on m) ∙ s (m + k) (rising g (m + k) b) (omega arith))
 
 -- steps that J carries over to others
-pub carries : {A B : Type 0} (J : A → B) (f : ℕ → A → A) (g : ℕ → B → B) (n : ℕ) (a : A) → ((i : ℕ) (x : A) → i < n → J (f i x) ≡ g i (J x)) → J (rising f n a) ≡ rising g n (J a)
+pub carries : {A B : Type 0} (J : A → B) (f : ℕ → A → A) (g : ℕ → B → B) (n : ℕ) (a : A)
+    → ((i : ℕ) (x : A) → i < n → J (f i x) ≡ g i (J x)) → J (rising f n a) ≡ rising g n (J a)
 unfolding rising
 carries J f g zero a h = refl
 carries J f g (suc n) a h = h n (rising f n a) (omega arith) ∙ ap (g n) (carries J f g n a (λ i x k. h i x (omega arith)))
 
 -- steps that are alike below n, and of which those from n on do nothing
-pub cut : {A : Type 0} (f g : ℕ → A → A) (n m : ℕ) (a : A) → n ≤ m → ((i : ℕ) (x : A) → i < n → f i x ≡ g i x) → ((i : ℕ) (x : A) → n ≤ i → f i x ≡ x) → rising f m a ≡ rising g n a
+pub cut : {A : Type 0} (f g : ℕ → A → A) (n m : ℕ) (a : A) → n ≤ m → ((i : ℕ) (x : A) → i < n → f i x ≡ g i x)
+    → ((i : ℕ) (x : A) → n ≤ i → f i x ≡ x) → rising f m a ≡ rising g n a
 cut f g n m a h like idle = sym (settles f (rising f n a) a n m h (λ j k _. idle j (rising f n a) k) refl) ∙ alike f g n a like

@@ -3,18 +3,20 @@ use mathlib.Core.Path.{_≡_, refl, sym, ap, ap₂, _∙_, subst}
 use mathlib.Core.Bool.{Bool, true, false, not, _&&_, Bool·beq}
 use mathlib.Core.Logic.{_⊎_, inl, inr, ⊎-elim}
 use Prim.Native.Nat.{ℕ, zero, suc, _+_, _-_, _*_, _/_, _%_, _^_, _≤_, _<_, min}
-use native.Mathlib.Nat.{pow-suc, one-mul, zero-div, mod-lt}
+use native.Mathlib.Nat.{pow-suc, one-mul, mod-lt}
 use native.Mathlib.Omega.{arith}
 use lib.Bits.{bitAnd, and-step, and-self}
 use lib.Count.{trailingZeros, under, trailing-of-zero}
 use lib.Dec.{ltb}
 use lib.Pow.{pow-pos}
 use borrow.Author.Tests.{lt-ltb, le-ltb}
-use Rattle.numbers.specs.Bits.{bit, withoutBit, withBit, lowBits, complement, lowestOne, chosen, OnesBelow}
+use Rattle.numbers.specs.Bits.{bit, withoutBit, withBit}
+use Rattle.numbers.specs.Working.{lowBits, complement, lowestOne, chosen, OnesBelow, ofOnes}
 use Rattle.numbers.specs.Choice.{pick}
-use Rattle.numbers.specs.Rising.{rising, ofOnes}
+use Rattle.numbers.specs.Rising.{rising}
 use Rattle.numbers.proofs.BitLaws.{digit, digit-zero, digit-suc, bit-is, bit-above, bit-below, bit-complement, bit-replaced, bit-kept, decEq}
 use Rattle.numbers.proofs.Rising.{starts, settles, alike, grows, carries}
+use Rattle.numbers.proofs.Sets.{bit-none}
 use Rattle.numbers.proofs.Tests.{true-not-false, below-or-not, pick-true, pick-false}
 
 -- ---- the lowest one
@@ -82,7 +84,8 @@ module _ (x i : ℕ) (h : Lowest x i) where
 
   -- the lowest one is below any bound on the ones
   inside : (n : ℕ) → x < 2 ^ n → i < n
-  inside n small = ⊎-elim (λ (g : i < n). g) (λ (g : n ≤ i). absurd (true-not-false (sym (bit-above x n i small g) ∙ bit-is x i 1 (h .one)))) (below-or-not i n)
+  inside n small =
+      ⊎-elim (λ (g : i < n). g) (λ (g : n ≤ i). absurd (true-not-false (sym (bit-above x n i small g) ∙ bit-is x i 1 (h .one)))) (below-or-not i n)
 
 -- a bit turned to zero, and the others
 module _ (x i : ℕ) where
@@ -95,15 +98,11 @@ module _ (x i : ℕ) where
   kept : (j : ℕ) → (j ≡ i → ⊥) → bit (withoutBit x i) j ≡ bit x j
   kept j e = ap (λ (z : ℕ). bit z j) (sym is) ∙ bit-kept x i 0 (omega arith) j e
 
--- zero has no one
-no-bit : (i : ℕ) → bit 0 i ≡ false
-no-bit i = bit-is 0 i 0 (ap (λ (x : ℕ). x % 2) (zero-div (2 ^ i)))
-
 -- ---- the numbers below n that are chosen
 
 module _ (n : ℕ) (choice : ℕ → Bool) (x : ℕ) (same : (i : ℕ) → i < n → bit x i ≡ choice i) where
   pub low-ones : (r : ℕ) → r ≡ lowBits x n → OnesBelow n choice r
-  low-ones r e = record { small = subst (λ (m : ℕ). m < 2 ^ n) (sym e) (mod-lt x (pow-pos n)); ones = λ i. ap (λ (m : ℕ). bit m i) e ∙ bit-below x n i ∙ at i (below-or-not i n) }
+  low-ones r e = record { small = rw e (mod-lt x (pow-pos n)); ones = λ i. rw e (bit-below x n i ∙ at i (below-or-not i n)) }
     where
       at : (i : ℕ) → (i < n) ⊎ (n ≤ i) → (ltb i n && bit x i) ≡ (ltb i n && choice i)
       at i (inl h) = ap (λ (b : Bool). ltb i n && b) (same i h)
@@ -111,7 +110,7 @@ module _ (n : ℕ) (choice : ℕ → Bool) (x : ℕ) (same : (i : ℕ) → i < n
 
 module _ (masked asked : Bool) (mask n : ℕ) (word : mask < 2 ^ 64) (short : n ≤ 64) where
   pub all-chosen : masked ≡ false → (r : ℕ) → r ≡ lowBits (2 ^ 64 - 1) n → OnesBelow n (chosen masked asked mask) r
-  all-chosen e = low-ones n _ (2 ^ 64 - 1) (λ i h. bit-complement 64 0 i (omega arith) (omega arith) ∙ ap not (no-bit i) ∙ rw e)
+  all-chosen e = low-ones n _ (2 ^ 64 - 1) (λ i h. bit-complement 64 0 i (omega arith) (omega arith) ∙ ap not (bit-none i) ∙ rw e)
 
   pub ones-chosen : masked ≡ true → asked ≡ true → (r : ℕ) → r ≡ lowBits mask n → OnesBelow n (chosen masked asked mask) r
   ones-chosen e f = low-ones n _ mask (λ i h. rw (e, f) (is-true (bit mask i)))
@@ -159,7 +158,9 @@ module _ {A : Type 0} (f : ℕ → A → A) where
         b = f i a
 
         below : b ≡ rising (ofOnes f y) i b
-        below = settles (ofOnes f y) b b 0 i (omega arith) (λ j _ k. no-step y j b (kept x i j (λ e. omega arith) ∙ bit-is x j 0 (h .zeros j k))) (starts (ofOnes f y) b)
+        below =
+            settles (ofOnes f y) b b 0 i (omega arith) (λ j _ k. no-step y j b (kept x i j (λ e. omega arith) ∙ bit-is x j 0 (h .zeros j k)))
+            (starts (ofOnes f y) b)
 
         both : rising (ofOnes f x) (suc i) a ≡ rising (ofOnes f y) (suc i) b
         both = ap (ofOnes f x i) (sym none-below) ∙ ones-step x i a (h .one) ∙ sym (no-step y i b (gone x i)) ∙ ap (ofOnes f y i) below
@@ -186,7 +187,7 @@ module _ {A : Type 0} (f : ℕ → A → A) (which n : ℕ) (a₀ : A) where
 
     pub ends-walk : left ≡ 0 → a ≡ rising (ofOnes f which) n a₀
     ends-walk e =
-        settles (ofOnes f left) a a 0 n (omega arith) (λ j _ _. no-step f left j a (ap (λ (x : ℕ). bit x j) e ∙ no-bit j)) (starts (ofOnes f left) a)
+        settles (ofOnes f left) a a 0 n (omega arith) (λ j _ _. no-step f left j a (ap (λ (x : ℕ). bit x j) e ∙ bit-none j)) (starts (ofOnes f left) a)
         ∙ w .leads
 
     -- one turn, at the lowest one
@@ -232,7 +233,8 @@ ones-carry J f g which n a h = carries J (ofOnes f which) (ofOnes g which) n a (
     at i x k false = refl
 
 -- those that are alike
-pub ones-alike : {A : Type 0} (f g : ℕ → A → A) (which n : ℕ) (a : A) → ((i : ℕ) (x : A) → i < n → f i x ≡ g i x) → rising (ofOnes f which) n a ≡ rising (ofOnes g which) n a
+pub ones-alike : {A : Type 0} (f g : ℕ → A → A) (which n : ℕ) (a : A) → ((i : ℕ) (x : A) → i < n → f i x ≡ g i x)
+    → rising (ofOnes f which) n a ≡ rising (ofOnes g which) n a
 ones-alike f g which n a h = ones-carry (λ x. x) f g which n a h
 
 module _ {A : Type 0} (f : ℕ → A → A) (a : A) where
@@ -250,7 +252,7 @@ module _ {A : Type 0} (f : ℕ → A → A) (a : A) where
       is i = ap (λ (x : ℕ). bit x i) e ∙ bit-below (2 ^ 64 - 1) n i
 
       is-in : (i : ℕ) → i < n → bit which i ≡ true
-      is-in i k = is i ∙ ap₂ (λ (s t : Bool). s && t) (lt-ltb i n k) (bit-complement 64 0 i (omega arith) (omega arith) ∙ ap not (no-bit i))
+      is-in i k = is i ∙ ap₂ (λ (s t : Bool). s && t) (lt-ltb i n k) (bit-complement 64 0 i (omega arith) (omega arith) ∙ ap not (bit-none i))
 
       is-out : (i : ℕ) → n ≤ i → bit which i ≡ false
       is-out i k = is i ∙ ap (λ (t : Bool). t && bit (2 ^ 64 - 1) i) (le-ltb i n k)
@@ -301,4 +303,6 @@ rises left some narrow = at (below-or-not 0 rest)
           where
             clash : Dec (j ≡ i) → ⊥
             clash (yes q) = true-not-false (sym (gone left i) ∙ ap (bit rest) (sym q) ∙ bit-is rest j 1 (next .one))
-            clash (no q) = let z : digit left j ≡ 0 = here .zeros j (omega arith) in true-not-false (sym (bit-is left j 0 z) ∙ sym (kept left i j q) ∙ bit-is rest j 1 (next .one))
+            clash (no q) =
+                let z : digit left j ≡ 0 = here .zeros j (omega arith) in
+                true-not-false (sym (bit-is left j 0 z) ∙ sym (kept left i j q) ∙ bit-is rest j 1 (next .one))

@@ -7,3 +7,4 @@ pub mod Over
 pub mod Relation
 pub mod Rising
 pub mod Signed
+pub mod Working

@@ -2,7 +2,8 @@
 ghost use mathlib.Core.Path.{_≡_};
 ghost use Prim.Native.Nat.{ℕ, _<_, _≤_};
 ghost use Rattle.numbers.specs.Choice.{pick};
-ghost use Rattle.numbers.specs.Bits.{bit as bitOf, withoutBit, withBit, lowBits, lowestOne, chosen, OnesBelow};
+ghost use Rattle.numbers.specs.Bits.{bit as bitOf, withoutBit, withBit};
+ghost use Rattle.numbers.specs.Working.{lowBits, lowestOne, chosen, OnesBelow};
 
 // Bit i is one.
 pub fn bit(x: u64, i: usize) -> bool

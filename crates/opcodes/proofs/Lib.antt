@@ -1,7 +1,6 @@
--- Laws of the table, of the works, of the checks, and of the instructions that pass them.
+-- Laws of opcodes and control words.
 pub mod Test
-pub mod Works
 pub mod Rule
-pub mod Checks
+pub mod Words
 pub mod Passed
 pub mod Examples

@@ -4,8 +4,8 @@ use mathlib.Core.Bool.{Bool, false, not, _&&_, _||_}
 use Prim.Native.Nat.{ℕ, _/_, _%_, _^_}
 use lib.Dec.{eqb}
 use Rattle.numbers.specs.Choice.{pick}
-use Rattle.opcodes.specs.declared.Work.{Work}
-use Rattle.opcodes.specs.declared.Work.the-variants.{AddLongword, SubtractLongword, MultiplyLongword, CompareLongword, BitSet, ExclusiveOr, BitClear, ShiftRight, ShiftLeft, AddF, SubtractF, MultiplyF, CompareF, Convert, Iota, Merge, LoadLongword, LoadQuadword, StoreLongword, StoreQuadword, DivideF}
+use Rattle.opcodes.specs.Works.{Holds, registers, relation, relationAlone, conversion, isLoad}
+use Rattle.opcodes.specs.Opcodes.{rowAt}
 use Rattle.opcodes.specs.declared.Instruction.{Instruction}
 use Rattle.opcodes.specs.declared.ControlWord.{ControlWord}
 use Rattle.opcodes.specs.declared.ControlWord.the-variants.{Accepted, Reserved}
@@ -34,8 +34,8 @@ vbOf c = c / 2 ^ 4 % 2 ^ 4
 abbrev pub vcOf : ℕ → ℕ
 vcOf c = c % 2 ^ 4
 
--- the instruction that an accepted opcode and its control word make; <12> is ignored
-abbrev pub instructionOf : Work → Bool → ℕ → Instruction
+-- the instruction of a work's number, a form and a control word; <12> is ignored
+abbrev pub instructionOf : ℕ → Bool → ℕ → Instruction
 instructionOf w s c = record {
   work = w;
   scalar = s;
@@ -51,45 +51,34 @@ instructionOf w s c = record {
 abbrev pub relationRefused : ℕ → Bool
 relationRefused r = eqb (r % 8) 3 || eqb (r % 8) 7
 
--- so is bit <3> for F compare
-abbrev pub relationRefusedF : ℕ → Bool
-relationRefusedF r = relationRefused r || eqb (r / 8) 1
-
 -- conversions: 5 rounded F to L, 4 truncated F to L, 1 L to F; others are refused
 abbrev pub conversionRefused : ℕ → Bool
 conversionRefused v = not (eqb v 5 || eqb v 4 || eqb v 1)
 
+-- what a control word holds beside registers; where a relation stands alone (F compare), bit <3> is refused too
+abbrev pub heldRefused : Holds → Instruction → Bool
+heldRefused registers i = false
+heldRefused relation i = relationRefused (i .vc .0)
+heldRefused relationAlone i = relationRefused (i .vc .0) || eqb (i .vc .0 / 8) 1
+heldRefused conversion i = conversionRefused (i .va .0)
+
 -- a gather with Vb = Vc is refused
 abbrev pub gatherRefused : Instruction → Bool
-gatherRefused i = i .scalar && eqb (i .vb .0) (i .vc .0)
-
--- what is refused for each work; the rest accepts every word
-abbrev pub refusedFor : Work → Instruction → Bool
-refusedFor AddLongword i = false
-refusedFor SubtractLongword i = false
-refusedFor MultiplyLongword i = false
-refusedFor CompareLongword i = relationRefused (i .vc .0)
-refusedFor BitSet i = false
-refusedFor ExclusiveOr i = false
-refusedFor BitClear i = false
-refusedFor ShiftRight i = false
-refusedFor ShiftLeft i = false
-refusedFor AddF i = false
-refusedFor SubtractF i = false
-refusedFor MultiplyF i = false
-refusedFor CompareF i = relationRefusedF (i .vc .0)
-refusedFor Convert i = conversionRefused (i .va .0)
-refusedFor Iota i = false
-refusedFor Merge i = false
-refusedFor LoadLongword i = gatherRefused i
-refusedFor LoadQuadword i = gatherRefused i
-refusedFor StoreLongword i = false
-refusedFor StoreQuadword i = false
-refusedFor DivideF i = false
+gatherRefused i = isLoad (rowAt (i .work) .moves) && (i .scalar && eqb (i .vb .0) (i .vc .0))
 
 unfoldable pub refused : Instruction → Bool
-refused i = refusedFor (i .work) i
+refused i = heldRefused (rowAt (i .work) .holds) i || gatherRefused i
 
 -- what an accepted opcode's control word says
-unfoldable pub controlWordOf : Work → Bool → ℕ → ControlWord
+unfoldable pub controlWordOf : ℕ → Bool → ℕ → ControlWord
 controlWordOf w s c = pick (refused (instructionOf w s c)) Reserved (Accepted (instructionOf w s c))
+
+-- ---- what an instruction takes from its fields beside registers: the conversion, the relation in <2:0>, or nothing
+abbrev pub fieldBy : Holds → Instruction → ℕ
+fieldBy registers i = 0
+fieldBy relation i = i .vc .0 % 8
+fieldBy relationAlone i = i .vc .0 % 8
+fieldBy conversion i = i .va .0
+
+abbrev pub fieldOf : Instruction → ℕ
+fieldOf i = fieldBy (rowAt (i .work) .holds) i

@@ -1,69 +1,31 @@
--- Document 01, "Opcodes": a refused opcode ends the check there; only an accepted one has its control
--- word read. "Numbers given back": the number of each answer and what stands beside it, at a queue
--- position, which is 0 for a single call.
-use mathlib.Core.Path.{_≡_}
-use mathlib.Core.Bool.{Bool}
+-- Document 01, "Opcodes" and "Numbers given back": what an opcode and a control word say, for one instruction and for a position of a queue. The order of the
+-- numbers is 1, 3, 2 for one instruction, and 1, 7, 2 at a queue position, which 3 comes before. A refused opcode ends the check: only an accepted one has its
+-- control word read.
+use mathlib.Core.Bool.{Bool, _&&_}
 use Prim.Native.Nat.{ℕ}
 use Rattle.numbers.specs.Choice.{pick}
-use Rattle.state.specs.Answer.{Answer, done, reservedOpcode, reservedControlWord}
-use Rattle.opcodes.specs.declared.Work.{Work}
+use Rattle.state.specs.declared.answer.Answer.the-variants.{ReservedOpcode, ReservedControlWord, Disabled, MemoryOpcode}
 use Rattle.opcodes.specs.declared.Opcode.{Opcode}
 use Rattle.opcodes.specs.declared.Opcode.the-variants as opcode
 use Rattle.opcodes.specs.declared.ControlWord.{ControlWord}
 use Rattle.opcodes.specs.declared.ControlWord.the-variants as word
 use Rattle.opcodes.specs.declared.Decoded.{Decoded}
-use Rattle.opcodes.specs.declared.Decoded.the-variants as decoded
-use Rattle.opcodes.specs.Opcodes.{table, listed, opcodeOf}
-use Rattle.opcodes.specs.ControlWord.{refused, instructionOf, controlWordOf}
+use Rattle.opcodes.specs.declared.Decoded.the-variants.{Accepted, Refused}
+use Rattle.opcodes.specs.Opcodes.{opcodeOf, isMemory}
+use Rattle.opcodes.specs.ControlWord.{controlWordOf}
 
--- what an opcode and a control word say
-abbrev pub decodedWord : ControlWord → Decoded
-decodedWord word.Reserved = decoded.ReservedControlWord
-decodedWord (word.Accepted i) = decoded.Accepted i
+abbrev pub byControlWord : ℕ → ControlWord → Decoded
+byControlWord position word.Reserved = Refused (ReservedControlWord position)
+byControlWord position (word.Accepted i) = Accepted i
 
-abbrev pub decodedWith : ℕ → Opcode → Decoded
-decodedWith c opcode.Reserved = decoded.ReservedOpcode
-decodedWith c (opcode.Accepted w s) = decodedWord (controlWordOf w s c)
+abbrev pub byOpcode : Bool → Bool → ℕ → ℕ → Opcode → Decoded
+byOpcode enabled queued position c opcode.Reserved = Refused (ReservedOpcode position)
+byOpcode enabled queued position c (opcode.Accepted w s) =
+    pick enabled
+    (pick (queued && isMemory w) (Refused (MemoryOpcode position))
+    (byControlWord position (controlWordOf w s c)))
+    (Refused Disabled)
 
-unfoldable pub decodedOf : ℕ → ℕ → Decoded
-decodedOf k c = decodedWith c (opcodeOf k)
-
--- the answers' numbers
-abbrev pub opcodeAnswer : ℕ → Opcode → Answer
-opcodeAnswer position opcode.Reserved = reservedOpcode position
-opcodeAnswer position (opcode.Accepted w s) = done 0
-
-abbrev pub controlWordAnswer : ℕ → ControlWord → Answer
-controlWordAnswer position word.Reserved = reservedControlWord position
-controlWordAnswer position (word.Accepted i) = done 0
-
-abbrev pub decodedAnswer : ℕ → Decoded → Answer
-decodedAnswer position decoded.ReservedOpcode = reservedOpcode position
-decodedAnswer position decoded.ReservedControlWord = reservedControlWord position
-decodedAnswer position (decoded.Accepted i) = done 0
-
--- the checks that give these numbers: the opcode, then the control word
-abbrev pub opcodeCheck : ℕ → ℕ → Answer
-opcodeCheck position k = pick (listed k table) (done 0) (reservedOpcode position)
-
-abbrev pub controlWordCheck : ℕ → Work → Bool → ℕ → Answer
-controlWordCheck position w s c = pick (refused (instructionOf w s c)) (reservedControlWord position) (done 0)
-
-abbrev pub checkWith : ℕ → ℕ → Opcode → Answer
-checkWith position c opcode.Reserved = reservedOpcode position
-checkWith position c (opcode.Accepted w s) = controlWordCheck position w s c
-
--- what looking an opcode up promises
-pub record LookedUp (k : ℕ) (r : Opcode) : Type 0 where
-  pub result : r ≡ opcodeOf k
-  pub answer : (position : ℕ) → opcodeAnswer position r ≡ opcodeCheck position k
-
--- what reading the control word of an accepted opcode promises
-pub record ControlWordRead (w : Work) (s : Bool) (c : ℕ) (r : ControlWord) : Type 0 where
-  pub result : r ≡ controlWordOf w s c
-  pub answer : (position : ℕ) → controlWordAnswer position r ≡ controlWordCheck position w s c
-
--- what decoding promises
-pub record Decodes (k c : ℕ) (r : Decoded) : Type 0 where
-  pub result : r ≡ decodedOf k c
-  pub answer : (position : ℕ) → decodedAnswer position r ≡ checkWith position c (opcodeOf k)
+-- at a position (0 for one instruction) of an enabled processor or a disabled one, in a queue or not
+unfoldable pub decodedOf : Bool → Bool → ℕ → ℕ → ℕ → Decoded
+decodedOf enabled queued position k c = byOpcode enabled queued position c (opcodeOf k)

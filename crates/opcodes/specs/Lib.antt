@@ -1,5 +1,6 @@
 -- Opcodes and control words.
+pub mod Works
 pub mod Opcodes
-pub mod WorkNumbers
 pub mod ControlWord
 pub mod Decoding
+pub mod Working

@@ -1,13 +1,16 @@
--- Document 01, "Opcodes": the table of accepted opcodes, with division's row (document 02, Q-1).
-use mathlib.Core.Bool.{Bool, true, false, _&&_, _||_}
+-- Document 01, "Opcodes": the table of accepted opcodes, with division's entry (document 02, Q-1).
+use mathlib.Core.Bool.{Bool, true, false, not, _||_}
 use mathlib.Core.List.{List, [], _∷_}
-use Prim.Native.Nat.{ℕ, _%_}
-use lib.Dec.{leb, eqb}
+use Prim.Native.Nat.{ℕ, zero, suc}
+use lib.Dec.{eqb}
 use Rattle.numbers.specs.Choice.{pick}
-use Rattle.opcodes.specs.declared.Work.{Work}
-use Rattle.opcodes.specs.declared.Work.the-variants.{AddLongword, SubtractLongword, MultiplyLongword, CompareLongword, BitSet, ExclusiveOr, BitClear, ShiftRight, ShiftLeft, AddF, SubtractF, MultiplyF, CompareF, Convert, Iota, Merge, LoadLongword, LoadQuadword, StoreLongword, StoreQuadword, DivideF}
 use Rattle.opcodes.specs.declared.Opcode.{Opcode}
 use Rattle.opcodes.specs.declared.Opcode.the-variants.{Accepted, Reserved}
+use Rattle.opcodes.specs.declared.Instruction.{Instruction}
+use Rattle.opcodes.specs.Works.{Work, Row, rowOf, reads, isMaskBit, isCounted, isMove}
+use Rattle.opcodes.specs.Works.{NoWork, AddLongword, SubtractLongword, MultiplyLongword, CompareLongword, BitSet, ExclusiveOr, BitClear, ShiftRight}
+use Rattle.opcodes.specs.Works.{ShiftLeft, AddF, SubtractF, MultiplyF, CompareF, Convert, Iota, Merge, LoadLongword}
+use Rattle.opcodes.specs.Works.{LoadQuadword, StoreLongword, StoreQuadword, DivideF}
 
 -- an entry of the table: a work with its opcodes, vector then scalar, or with the one that it has;
 -- for memory, the opcode that takes a stride and then the one that takes offsets
@@ -49,50 +52,58 @@ table =
     ∷ forms DivideF 0xAC 0xAD
     ∷ []
 
--- the first entry that has the opcode says what it is; one that no entry has is reserved
-abbrev pub among : ℕ → List Entry → Opcode
-among k [] = Reserved
-among k (forms w v s ∷ rest) = pick (eqb k v) (Accepted w false) (pick (eqb k s) (Accepted w true) (among k rest))
-among k (vector w v ∷ rest) = pick (eqb k v) (Accepted w false) (among k rest)
-among k (scalar w s ∷ rest) = pick (eqb k s) (Accepted w true) (among k rest)
+-- ---- a work's number is the place of its entry in the table, counted from 1
+abbrev pub workIn : Entry → Work
+workIn (forms w v s) = w
+workIn (vector w v) = w
+workIn (scalar w s) = w
+
+abbrev pub workFrom : List Entry → ℕ → Work
+workFrom [] n = NoWork
+workFrom (e ∷ rest) zero = workIn e
+workFrom (e ∷ rest) (suc n) = workFrom rest n
+
+-- the work of a number; 0, and a number past the last entry, is none's
+unfoldable pub workAt : ℕ → Work
+workAt zero = NoWork
+workAt (suc n) = workFrom table n
+
+-- ---- the first entry that has the opcode says what it is; one that no entry has is reserved
+abbrev pub among : ℕ → ℕ → List Entry → Opcode
+among k n [] = Reserved
+among k n (forms w v s ∷ rest) = pick (eqb k v) (Accepted n false) (pick (eqb k s) (Accepted n true) (among k (suc n) rest))
+among k n (vector w v ∷ rest) = pick (eqb k v) (Accepted n false) (among k (suc n) rest)
+among k n (scalar w s ∷ rest) = pick (eqb k s) (Accepted n true) (among k (suc n) rest)
 
 unfoldable pub opcodeOf : ℕ → Opcode
-opcodeOf k = among k table
+opcodeOf k = among k 1 table
 
--- the opcode stands in the table
-abbrev pub listed : ℕ → List Entry → Bool
-listed k [] = false
-listed k (forms w v s ∷ rest) = eqb k v || eqb k s || listed k rest
-listed k (vector w v ∷ rest) = eqb k v || listed k rest
-listed k (scalar w s ∷ rest) = eqb k s || listed k rest
+-- ---- the row of a number's work, and what it says of an instruction
+unfoldable pub rowAt : ℕ → Row
+rowAt n = rowOf (workAt n)
 
--- "an accepted operate opcode (80 to 8F, A0 and above)"
-abbrev pub operateCode : ℕ → Bool
-operateCode k = leb 0x80 k && leb k 0x8F || leb 0xA0 k
+-- it moves memory
+abbrev pub isMemory : ℕ → Bool
+isMemory n = isMove (rowAt n .moves)
 
-abbrev pub odd : ℕ → Bool
-odd k = eqb (k % 2) 1
+-- it writes mask bits and no register
+abbrev pub writesMask : Instruction → Bool
+writesMask ins = isMaskBit (rowAt (ins .work) .writes)
 
--- loads and gathers, stores and scatters
-abbrev pub isMemory : Work → Bool
-isMemory AddLongword = false
-isMemory SubtractLongword = false
-isMemory MultiplyLongword = false
-isMemory CompareLongword = false
-isMemory BitSet = false
-isMemory ExclusiveOr = false
-isMemory BitClear = false
-isMemory ShiftRight = false
-isMemory ShiftLeft = false
-isMemory AddF = false
-isMemory SubtractF = false
-isMemory MultiplyF = false
-isMemory CompareF = false
-isMemory Convert = false
-isMemory Iota = false
-isMemory Merge = false
-isMemory LoadLongword = true
-isMemory LoadQuadword = true
-isMemory StoreLongword = true
-isMemory StoreQuadword = true
-isMemory DivideF = false
+-- it is one step for all elements
+abbrev pub inOneStep : Instruction → Bool
+inOneStep ins = isCounted (rowAt (ins .work) .writes)
+
+-- it operates on elements whatever MOE says
+abbrev pub ignoresMoe : Instruction → Bool
+ignoresMoe ins = not (rowAt (ins .work) .obeysMoe)
+
+abbrev pub readsVa : Instruction → Bool
+readsVa ins = reads (rowAt (ins .work) .va) (ins .scalar)
+
+abbrev pub readsVb : Instruction → Bool
+readsVb ins = reads (rowAt (ins .work) .vb) (ins .scalar)
+
+-- the mask bits
+abbrev pub readsMask : Instruction → Bool
+readsMask ins = ins .moe || ignoresMoe ins

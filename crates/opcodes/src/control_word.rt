@@ -2,10 +2,12 @@
 use crate::ControlWord;
 use crate::Field;
 use crate::Instruction;
-use crate::Work;
+use crate::works;
 ghost use mathlib.Core.Path.{_≡_};
-ghost use Rattle.opcodes.specs.ControlWord.{relationRefused, relationRefusedF, conversionRefused, gatherRefused, refused as refusedOf, instructionOf};
-ghost use Rattle.opcodes.specs.Decoding.{ControlWordRead};
+ghost use mathlib.Core.Bool.{_&&_, _||_};
+ghost use Prim.Native.Nat.{_/_};
+ghost use lib.Dec.{eqb};
+ghost use Rattle.opcodes.specs.ControlWord.{relationRefused, conversionRefused, refused as refusedOf, instructionOf, controlWordOf};
 
 // The relation is none.
 fn relation_refused(relation: u8) -> bool
@@ -14,9 +16,9 @@ fn relation_refused(relation: u8) -> bool
     (relation % 8 == 3) | (relation % 8 == 7)
 }
 
-// F compare refuses bit <3> too.
-fn relation_refused_f(relation: u8) -> bool
-    ensures { λ r. ⌜ r ≡ relationRefusedF relation ⌝ }
+// Where it stands alone in its field, bit <3> is refused too.
+fn lone_relation_refused(relation: u8) -> bool
+    ensures { λ r. ⌜ r ≡ (relationRefused relation || eqb (relation / 8) 1) ⌝ }
 {
     relation_refused(relation) | (relation / 8 == 1)
 }
@@ -30,28 +32,27 @@ fn conversion_refused(conversion: u8) -> bool
 
 // A gather would write over the offsets that it reads.
 fn gather_refused(i: Instruction) -> bool
-    ensures { λ r. ⌜ r ≡ gatherRefused i ⌝ }
+    ensures { λ r. ⌜ r ≡ (i .scalar && eqb (i .vb .0) (i .vc .0)) ⌝ }
 {
     i.scalar & (i.vb.0 == i.vc.0)
 }
 
-// The instruction's control word is reserved.
+// The instruction's control word is reserved, by the test that its work's row asks for.
 fn refused(i: Instruction) -> bool
     ensures { λ r. ⌜ r ≡ refusedOf i ⌝ }
 {
-    let work = i.work;
-    match work {
-        Work::CompareLongword => relation_refused(i.vc.0),
-        Work::CompareF => relation_refused_f(i.vc.0),
-        Work::Convert => conversion_refused(i.va.0),
-        Work::LoadLongword => gather_refused(i),
-        Work::LoadQuadword => gather_refused(i),
+    let test = works::word_test(i.work);
+    match test {
+        1 => relation_refused(i.vc.0),
+        2 => lone_relation_refused(i.vc.0),
+        3 => conversion_refused(i.va.0),
+        4 => gather_refused(i),
         _ => false,
     }
 }
 
 // The instruction that an accepted opcode and a control word make.
-fn instruction(work: Work, scalar: bool, cntrl: u16) -> Instruction
+fn instruction(work: u8, scalar: bool, cntrl: u16) -> Instruction
     ensures { λ r. ⌜ r ≡ instructionOf work scalar cntrl ⌝ }
 {
     Instruction {
@@ -67,8 +68,8 @@ fn instruction(work: Work, scalar: bool, cntrl: u16) -> Instruction
 }
 
 // What the control word of an accepted opcode says.
-pub fn read_control(work: Work, scalar: bool, cntrl: u16) -> ControlWord
-    ensures { λ r. ⌜ ControlWordRead work scalar cntrl r ⌝ }
+pub fn read_control(work: u8, scalar: bool, cntrl: u16) -> ControlWord
+    ensures { λ r. ⌜ r ≡ controlWordOf work scalar cntrl ⌝ }
 {
     let i = instruction(work, scalar, cntrl);
     if refused(i) {

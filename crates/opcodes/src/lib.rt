@@ -1,39 +1,17 @@
 // Opcodes and control words: which instructions are accepted, and what they say.
-ghost use Rattle.opcodes.specs.Decoding.{Decodes};
+use state::answer::Answer;
+ghost use mathlib.Core.Path.{_≡_};
+ghost use Rattle.opcodes.specs.Decoding.{decodedOf};
 
 pub mod control_word;
 pub mod table;
+pub mod works;
 
-// What an instruction does to an element, or to memory. A later operation is one more case.
-pub enum Work {
-    AddLongword,
-    SubtractLongword,
-    MultiplyLongword,
-    CompareLongword,
-    BitSet,
-    ExclusiveOr,
-    BitClear,
-    ShiftRight,
-    ShiftLeft,
-    AddF,
-    SubtractF,
-    MultiplyF,
-    CompareF,
-    Convert,
-    Iota,
-    Merge,
-    LoadLongword,
-    LoadQuadword,
-    StoreLongword,
-    StoreQuadword,
-    DivideF,
-}
-
-// An opcode: its work, and whether it is the scalar form; or none. The scalar form of an operate opcode
+// An opcode: the number of its work, and whether it is the scalar form; or none. The scalar form of an operate opcode
 // takes a scalar for Va (IOTA: the stride); that of a memory opcode takes offsets from Vb instead of a
 // stride.
 pub enum Opcode {
-    Accepted(Work, bool),
+    Accepted(u8, bool),
     Reserved,
 }
 
@@ -42,7 +20,8 @@ pub struct Field(pub u8);
 
 // A decoded instruction: the one value that the layers above work from.
 pub struct Instruction {
-    pub work: Work,
+    // The number of its work.
+    pub work: u8,
     // The opcode's form, as in Opcode.
     pub scalar: bool,
     // With moe, only elements whose mask bit is mtf are operated on.
@@ -63,23 +42,28 @@ pub enum ControlWord {
     Reserved,
 }
 
-// What an opcode and a control word say.
+// What an opcode and a control word say: an instruction, or why there is none.
 pub enum Decoded {
     Accepted(Instruction),
-    ReservedOpcode,
-    ReservedControlWord,
+    Refused(Answer),
 }
 
-// What an opcode and a control word say. A refused opcode ends the check: only an accepted one has its
-// control word read.
-pub fn decode(opcode: u8, cntrl: u16) -> Decoded
-    ensures { λ r. ⌜ Decodes opcode cntrl r ⌝ }
+// What an opcode and a control word say at a queue position, or, at 0, by themselves. A refused opcode ends the check: only an accepted one has its control word
+// read.
+pub fn decode(enabled: bool, queued: bool, position: u64, opcode: u8, cntrl: u16) -> Decoded
+    ensures { λ r. ⌜ r ≡ decodedOf enabled queued position opcode cntrl ⌝ }
 {
     let Opcode::Accepted(work, scalar) = table::look_up(opcode) else {
-        return Decoded::ReservedOpcode;
+        return Decoded::Refused(Answer::ReservedOpcode(position));
     };
+    if !enabled {
+        return Decoded::Refused(Answer::Disabled);
+    }
+    if queued & works::is_memory(work) {
+        return Decoded::Refused(Answer::MemoryOpcode(position));
+    }
     let ControlWord::Accepted(instruction) = control_word::read_control(work, scalar, cntrl) else {
-        return Decoded::ReservedControlWord;
+        return Decoded::Refused(Answer::ReservedControlWord(position));
     };
     Decoded::Accepted(instruction)
 }

@@ -1,12 +1,9 @@
 // The opcode table.
 use crate::Opcode;
-use crate::Work;
 ghost use mathlib.Core.Path.{_≡_};
-ghost use Rattle.opcodes.specs.Opcodes.{opcodeOf, isMemory as isMemoryOf};
-ghost use Rattle.opcodes.specs.Decoding.{LookedUp};
-ghost use Rattle.opcodes.specs.WorkNumbers.{numberOf, numbered as numberedOf};
+ghost use Rattle.opcodes.specs.Opcodes.{opcodeOf};
 
-// Each opcode's work: 0 is reserved, the others are the works in the order of the table of document 01, and then division, of document 02.
+// Each opcode's work, by its number (works.rt): 0 is reserved.
 const WORK: [u8; 256] = [
     0, // 00
     0, // 01
@@ -266,57 +263,13 @@ const WORK: [u8; 256] = [
     0, // FF
 ];
 
-// The number that the table has for an opcode.
-fn number(opcode: u8) -> u8
-    ensures { λ r. ⌜ r ≡ numberOf (opcodeOf opcode) ⌝ }
-{
-    WORK[opcode as usize]
-}
-
-// The work that a number of the table stands for.
-fn numbered(n: u8, scalar: bool) -> Opcode
-    ensures { λ r. ⌜ r ≡ numberedOf n scalar ⌝ }
-{
-    match n {
-        1 => Opcode::Accepted(Work::AddLongword, scalar),
-        2 => Opcode::Accepted(Work::SubtractLongword, scalar),
-        3 => Opcode::Accepted(Work::MultiplyLongword, scalar),
-        4 => Opcode::Accepted(Work::CompareLongword, scalar),
-        5 => Opcode::Accepted(Work::BitSet, scalar),
-        6 => Opcode::Accepted(Work::ExclusiveOr, scalar),
-        7 => Opcode::Accepted(Work::BitClear, scalar),
-        8 => Opcode::Accepted(Work::ShiftRight, scalar),
-        9 => Opcode::Accepted(Work::ShiftLeft, scalar),
-        10 => Opcode::Accepted(Work::AddF, scalar),
-        11 => Opcode::Accepted(Work::SubtractF, scalar),
-        12 => Opcode::Accepted(Work::MultiplyF, scalar),
-        13 => Opcode::Accepted(Work::CompareF, scalar),
-        14 => Opcode::Accepted(Work::Convert, scalar),
-        15 => Opcode::Accepted(Work::Iota, scalar),
-        16 => Opcode::Accepted(Work::Merge, scalar),
-        17 => Opcode::Accepted(Work::LoadLongword, scalar),
-        18 => Opcode::Accepted(Work::LoadQuadword, scalar),
-        19 => Opcode::Accepted(Work::StoreLongword, scalar),
-        20 => Opcode::Accepted(Work::StoreQuadword, scalar),
-        21 => Opcode::Accepted(Work::DivideF, scalar),
-        _ => Opcode::Reserved,
-    }
-}
-
-// What an opcode stands for.
+// What an opcode stands for. Of an accepted one, the form is the scalar one exactly where the opcode is odd.
 pub fn look_up(opcode: u8) -> Opcode
-    ensures { λ r. ⌜ LookedUp opcode r ⌝ }
+    ensures { λ r. ⌜ r ≡ opcodeOf opcode ⌝ }
 {
-    numbered(number(opcode), opcode % 2 == 1)
-}
-
-// It loads or stores.
-pub fn is_memory(work: Work) -> bool
-    ensures { λ r. ⌜ r ≡ isMemoryOf work ⌝ }
-{
-    match work {
-        Work::LoadLongword | Work::LoadQuadword => true,
-        Work::StoreLongword | Work::StoreQuadword => true,
-        _ => false,
+    let work = WORK[opcode as usize];
+    if work == 0 {
+        return Opcode::Reserved;
     }
+    Opcode::Accepted(work, opcode % 2 == 1)
 }

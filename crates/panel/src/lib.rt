@@ -3,6 +3,7 @@ use floating::Reading;
 use state::Control;
 use state::Element;
 use state::Register;
+use state::answer::Answer;
 ghost use mathlib.Core.Path.{_≡_};
 ghost use Prim.Native.Nat.{_<_};
 ghost use Rattle.numbers.specs.Halves.{low};
@@ -12,8 +13,7 @@ ghost use Rattle.panel.specs.Panel.{isField, ShownAs, Answered};
 // What a panel field gets.
 pub enum Panel {
     Shown(Reading),
-    StateOutOfRange,
-    NoSuchField,
+    Refused(Answer),
 }
 
 // There is such a field.
@@ -52,10 +52,10 @@ pub fn reading(
     ensures { λ r. ⌜ Answered (stateOf (now (elements .entry)) control) (register .0) (element .0) kind r ⌝ }
 {
     if !state::in_range(control) {
-        return Panel::StateOutOfRange;
+        return Panel::Refused(Answer::OutOfRange);
     }
     if !is_field(register, element, kind) {
-        return Panel::NoSuchField;
+        return Panel::Refused(Answer::NoSuchField);
     }
     let at = state::place(register, element);
     Panel::Shown(shown(kind, word_of(elements[at])))

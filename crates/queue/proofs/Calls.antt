@@ -9,111 +9,123 @@ use lib.ListN.{length, getD}
 use lib.Seq.{take-length}
 use Rattle.numbers.specs.Choice.{pick}
 use Rattle.state.specs.declared.Control.{Control}
-use Rattle.state.specs.Answer.{Answer, done, disabled, outOfRange, queueRefused, orderRefused}
+use Rattle.state.specs.declared.answer.Answer.{Answer}
+use Rattle.state.specs.declared.answer.Answer.the-variants.{Done, Disabled, QueueRefused, OrderRefused, OutOfRange}
+use Rattle.state.specs.Answer.{isDone}
+use Rattle.state.specs.declared.answer.Ended.{Ended}
+use Rattle.state.specs.Outcome.{outcome, refused, refusedState}
+use Rattle.state.proofs.Refusing.{refuses-state}
 use Rattle.state.specs.State.{state, inRange, enabled, lengthInRange, vaerInRange, vpsrInRange}
 use Rattle.machine.specs.declared.Progress.{Progress}
-use Rattle.machine.specs.Run.{run, progress, ended, finished}
-use Rattle.queue.specs.declared.Reply.{Reply}
-use Rattle.queue.specs.Queue.{Queue, size, wellFormed, fine, positions, acceptance, straight, instructionAt}
-use Rattle.queue.specs.Reply.{replyAnswer}
-use Rattle.queue.specs.Run.{outcome, ranThrough, queueRun, verdictOf, byVerdict, ranBy, walkedRun}
-use Rattle.queue.specs.Order.{Mem, Proper, run as walkOf}
-use Rattle.queue.specs.Touch.{position, stepsOf, mustPrecede, act}
-use Rattle.queue.specs.Tables.{Below, decodedAt, actBy, throughBy, standing}
-use Rattle.queue.specs.declared.Verdict.{Verdict}
-use Rattle.queue.specs.declared.Verdict.the-variants as verdict
+use Rattle.machine.specs.Run.{run, progress, nothing, ended, finished}
+use Rattle.touch.specs.Parts.{Queue, size, instructionAt}
+use Rattle.queue.specs.Queue.{wellFormed, positions, acceptance, straight}
+use Rattle.queue.specs.Run.{ranThrough, queueRun, verdictOf, byVerdict, ranBy, walkedRun}
+use Rattle.order.specs.Order.{Mem, Proper, run as walkOf}
+use Rattle.order.specs.Steps.{position}
+use Rattle.touch.specs.Touch.{stepsOf, mustPrecede, act}
+use Rattle.queue.specs.CallsWorking.{Runs, decodedAt, actBy, throughBy, standing}
+use Rattle.order.specs.declared.Verdict.{Verdict}
+use Rattle.order.specs.declared.Verdict.the-variants as verdict
 use Rattle.opcodes.specs.declared.Instruction.{Instruction}
-use Rattle.queue.proofs.Meaning.{place}
+use Rattle.order.proofs.Meaning.{place-in}
 use Rattle.queue.proofs.Claim.{permitted-proper}
-use Rattle.queue.proofs.Steps.{step-of, step-position}
-use Rattle.queue.proofs.Through.{at-below, same-through}
-use Rattle.queue.proofs.RunLoop.{run-same, same-acts}
-use Rattle.queue.proofs.Accepting.{Lengths, lengths, both}
+use Rattle.touch.proofs.Steps.{step-of, step-position}
+use Rattle.queue.proofs.Through.{at-runs, same-through}
+use Rattle.order.proofs.RunLoop.{run-same}
+use Rattle.queue.proofs.Through.{same-acts}
+use Rattle.queue.proofs.Accepting.{Lengths, lengths}
+use Rattle.order.proofs.Tests.{both}
 
 -- ---- an accepted queue
-passed : (b : Bool) (a r : Answer) → fine r ≡ false → fine (pick b a r) ≡ true → (b ≡ true) × (fine a ≡ true)
-passed true a r e f = (refl, f)
-passed false a r e f = absurd (let z : _≡_ {A = ℕ} 0 1 = cc in omega arith)
+pick-fine : (b : Bool) (a r : Answer) → isDone r ≡ false → isDone (pick b a r) ≡ true → (b ≡ true) × (isDone a ≡ true)
+pick-fine true a r e f = (refl, f)
+pick-fine false a r e f = absurd (let z : _≡_ {A = ℕ} 0 1 = cc in omega arith)
 
-pub record Accepted (c : Control) (q : Queue) : Type 0 where
+pub record Bounded (c : Control) (q : Queue) : Type 0 where
   pub short : c .vlr ≤ 64
   pub lengths : Lengths q
 
 -- whatever it gets after the range and the form
-accepted : (c : Control) (q : Queue) (x : Answer) → fine (pick (inRange c) (pick (wellFormed q) x queueRefused) outOfRange) ≡ true → Accepted c q
+bounded : (c : Control) (q : Queue) (x : Answer) → isDone (pick (inRange c) (pick (wellFormed q) x QueueRefused) OutOfRange) ≡ true → Bounded c q
 unfolding inRange
-accepted c q x e =
-    let u = passed (inRange c) _ outOfRange refl e in
-    let v = passed (wellFormed q) _ queueRefused refl (u .1) in
+bounded c q x e =
+    let u = pick-fine (inRange c) _ OutOfRange refl e in
+    let v = pick-fine (wellFormed q) _ QueueRefused refl (u .1) in
     let w = both (lengthInRange (c .vlr) && lengthInRange (c .vcr) && vaerInRange (c .vaer)) (vpsrInRange (c .vpsr)) (u .0) in
     let x = both (lengthInRange (c .vlr) && lengthInRange (c .vcr)) (vaerInRange (c .vaer)) (w .0) in
     let y = both (lengthInRange (c .vlr)) (lengthInRange (c .vcr)) (x .0) in
     record { short = leb-true (c .vlr) 64 (y .0); lengths = lengths q (v .0) }
 
-pub stands-accepted : (c : Control) (q : Queue) (r : Reply) → replyAnswer r ≡ standing c q → fine (replyAnswer r) ≡ true → Accepted c q
+pub stands-bounded : (c : Control) (q : Queue) (r : Answer) → r ≡ standing c q → isDone r ≡ true → Bounded c q
 unfolding standing
-stands-accepted c q r e f = accepted c q (pick (enabled c) (done 0) disabled) (sym (ap fine e) ∙ f)
+stands-bounded c q r e f = bounded c q (pick (enabled c) (Done 0) Disabled) (sym (ap isDone e) ∙ f)
 
-pub fine-accepted : (c : Control) (q : Queue) → fine (acceptance c q) ≡ true → Accepted c q
+pub fine-bounded : (c : Control) (q : Queue) → isDone (acceptance c q) ≡ true → Bounded c q
 unfolding acceptance
-fine-accepted c q = accepted c q (pick (enabled c) (positions q (size q)) disabled)
+fine-bounded c q = bounded c q (pick (enabled c) (positions q (size q)) Disabled)
 
-pub fine-in-range : (c : Control) (q : Queue) → fine (acceptance c q) ≡ true → inRange c ≡ true
+pub fine-in-range : (c : Control) (q : Queue) → isDone (acceptance c q) ≡ true → inRange c ≡ true
 unfolding acceptance
-fine-in-range c q e = passed (inRange c) _ outOfRange refl e .0
+fine-in-range c q e = pick-fine (inRange c) _ OutOfRange refl e .0
 
-module _ (q : Queue) (l : List ℕ) (c : Control) (r : Reply) (asked : replyAnswer r ≡ acceptance c q) where
-  pub reply-accepted : fine (replyAnswer r) ≡ true → Accepted c q
-  reply-accepted f = fine-accepted c q (sym (ap fine asked) ∙ f)
+module _ (q : Queue) (l : List ℕ) (c : Control) (r : Answer) (asked : r ≡ acceptance c q) where
+  pub reply-bounded : isDone r ≡ true → Bounded c q
+  reply-bounded f = fine-bounded c q (sym (ap isDone asked) ∙ f)
 
   -- ---- straight through
-  pub run-refused : fine (replyAnswer r) ≡ false → outcome (replyAnswer r) (state l c) ≡ queueRun q (state l c)
+  pub run-refused : isDone r ≡ false → (d : Ended) → outcome (d .answer) (d .control) ≡ refused r c → outcome (d .answer) (state l (d .control)) ≡ queueRun q (state l c)
   unfolding queueRun
-  run-refused f =
-      ap (λ (a : Answer). outcome a (state l c)) asked
-      ∙ sym (ap (λ (t : Bool). pick t (outcome (done 0) (ranThrough q (state l c))) (outcome (acceptance c q) (state l c))) (sym (ap fine asked) ∙ f))
+  run-refused f d e =
+      refuses-state (state l c) r d e
+      ∙ ap (λ (a : Answer). refusedState a (state l c)) asked
+      ∙ sym (ap (λ (t : Bool). pick t (outcome (Done 0) (ranThrough q (state l c))) (refusedState (acceptance c q) (state l c))) (sym (ap isDone asked) ∙ f))
 
-  module _ (f : fine (replyAnswer r) ≡ true) (program : List Instruction) (same : (k : ℕ) → k < size q → decodedAt program k ≡ instructionAt q k) where
-    pub through-meets : (p : Progress) → p ≡ progress c false → ((p .control .vlr ≤ 64) × (length (q .scalars) ≤ 16)) × ((k : ℕ) → k < length (q .scalars) → Below (decodedAt program k))
+  module _ (f : isDone r ≡ true) (program : List Instruction) (same : (k : ℕ) → k < size q → decodedAt program k ≡ instructionAt q k) where
+    pub through-meets : (p : Progress) → p ≡ progress c nothing → ((p .control .vlr ≤ 64) × (length (q .scalars) ≤ 16)) × ((k : ℕ) → k < length (q .scalars) → Runs (decodedAt program k))
     through-meets p e =
-        let a = reply-accepted f in (
+        let a = reply-bounded f in (
           (rw (ap (λ (b : Progress). b .control .vlr) e) (a .short), rw (a .lengths .scalars) (a .lengths .few)),
-          λ k h. rw (same k (rw (a .lengths .scalars) at h)) (at-below q k),
+          λ k h. rw (same k (rw (a .lengths .scalars) at h)) (at-runs q k),
         )
 
-    module _ (l′ : List ℕ) (p p′ : Progress) (c′ : Control) (starts : p ≡ progress c false) (ends : c′ ≡ ended p′) where
+    module _ (l′ : List ℕ) (p p′ : Progress) (c′ : Control) (starts : p ≡ progress c nothing) (ends : c′ ≡ ended p′) where
       through : run l′ p′ ≡ throughBy program (q .scalars) (length (q .scalars)) (run l p) → state l′ c′ ≡ ranThrough q (state l c)
       unfolding ranThrough
       through e =
           ap (state l′) ends
           ∙ ap finished
           (e
-          ∙ ap (λ (n : ℕ). throughBy program (q .scalars) n (run l p)) (reply-accepted f .lengths .scalars)
+          ∙ ap (λ (n : ℕ). throughBy program (q .scalars) n (run l p)) (reply-bounded f .lengths .scalars)
           ∙ same-through q program same (size q) (omega arith) (run l p)
           ∙ ap (λ (b : Progress). straight q (size q) (run l b)) starts)
 
-      pub run-done : run l′ p′ ≡ throughBy program (q .scalars) (length (q .scalars)) (run l p) → outcome (done 0) (state l′ c′) ≡ queueRun q (state l c)
+      pub run-done : run l′ p′ ≡ throughBy program (q .scalars) (length (q .scalars)) (run l p) → outcome (Done 0) (state l′ c′) ≡ queueRun q (state l c)
       unfolding queueRun
       run-done e =
-          ap (outcome (done 0)) (through e)
-          ∙ sym (ap (λ (t : Bool). pick t (outcome (done 0) (ranThrough q (state l c))) (outcome (acceptance c q) (state l c))) (sym (ap fine asked) ∙ f))
+          ap (outcome (Done 0)) (through e)
+          ∙ sym (ap (λ (t : Bool). pick t (outcome (Done 0) (ranThrough q (state l c))) (refusedState (acceptance c q) (state l c))) (sym (ap isDone asked) ∙ f))
 
   -- ---- by a list
-  pub order-refused : fine (replyAnswer r) ≡ false → (list : List ℕ) → outcome (replyAnswer r) (state l c) ≡ walkedRun q list (state l c)
+  pub order-refused : isDone r ≡ false → (list : List ℕ) (d : Ended) → outcome (d .answer) (d .control) ≡ refused r c
+      → outcome (d .answer) (state l (d .control)) ≡ walkedRun q list (state l c)
   unfolding walkedRun
-  order-refused f list =
-      ap (λ (a : Answer). outcome a (state l c)) asked
-      ∙ sym (ap (λ (t : Bool). pick t (byVerdict (state l c) (ranBy q list (state l c)) (verdictOf q (c .vlr) list)) (outcome (acceptance c q) (state l c))) (sym (ap fine asked) ∙ f))
+  order-refused f list d e =
+      refuses-state (state l c) r d e
+      ∙ ap (λ (a : Answer). refusedState a (state l c)) asked
+      ∙ sym (ap (λ (t : Bool). pick t (byVerdict (state l c) (ranBy q list (state l c)) (verdictOf q (c .vlr) list)) (refusedState (acceptance c q) (state l c))) (sym (ap isDone asked) ∙ f))
 
-  module _ (f : fine (replyAnswer r) ≡ true) (list : List ℕ) where
-    walked : byVerdict (state l c) (ranBy q list (state l c)) (verdictOf q (c .vlr) list) ≡ walkedRun q list (state l c)
+  module _ (f : isDone r ≡ true) (list : List ℕ) where
+    as-walked : byVerdict (state l c) (ranBy q list (state l c)) (verdictOf q (c .vlr) list) ≡ walkedRun q list (state l c)
     unfolding walkedRun
-    walked = sym (ap (λ (t : Bool). pick t (byVerdict (state l c) (ranBy q list (state l c)) (verdictOf q (c .vlr) list)) (outcome (acceptance c q) (state l c))) (sym (ap fine asked) ∙ f))
+    as-walked = sym (ap (λ (t : Bool). pick t (byVerdict (state l c) (ranBy q list (state l c)) (verdictOf q (c .vlr) list)) (refusedState (acceptance c q) (state l c))) (sym (ap isDone asked) ∙ f))
 
-    pub order-stopped : (v : Verdict) (place : ℕ) → v ≡ verdictOf q (c .vlr) list → v ≡ verdict.Refused place → outcome (orderRefused place) (state l c) ≡ walkedRun q list (state l c)
-    order-stopped v place e g = ap (byVerdict (state l c) (ranBy q list (state l c))) (sym g ∙ e) ∙ walked
+    pub order-stopped : (v : Verdict) (place : ℕ) → v ≡ verdictOf q (c .vlr) list → v ≡ verdict.Refused place
+        → (d : Ended) → outcome (d .answer) (d .control) ≡ refused (OrderRefused place) c → outcome (d .answer) (state l (d .control)) ≡ walkedRun q list (state l c)
+    order-stopped v place e g d k = refuses-state (state l c) (OrderRefused place) d k ∙ ap (byVerdict (state l c) (ranBy q list (state l c))) (sym g ∙ e) ∙ as-walked
 
-    module _ (program : List Instruction) (same : (k : ℕ) → k < size q → decodedAt program k ≡ instructionAt q k) (v : Verdict) (e : v ≡ verdictOf q (c .vlr) list) (permitted : v ≡ verdict.Permitted) where
+    module _ (program : List Instruction) (same : (k : ℕ) → k < size q → decodedAt program k ≡ instructionAt q k) (v : Verdict)
+        (e : v ≡ verdictOf q (c .vlr) list) (permitted : v ≡ verdict.Permitted) where
       allowed : verdictOf q (c .vlr) list ≡ verdict.Permitted
       allowed = sym e ∙ permitted
 
@@ -124,9 +136,9 @@ module _ (q : Queue) (l : List ℕ) (c : Control) (r : Reply) (asked : replyAnsw
       entry-position i h = step-position q (c .vlr) (getD list i 0) (step-of q (c .vlr) (getD list i 0) (proper .only i h))
 
       entry-of : (x : ℕ) → Mem x list → position x < size q
-      entry-of x m = let w = place x list (length list) (rw take-length m) in subst (λ (y : ℕ). position y < size q) (w .3) (entry-position (w .0) (w .1))
+      entry-of x m = let w = place-in x list (length list) (rw take-length m) in subst (λ (y : ℕ). position y < size q) (w .3) (entry-position (w .0) (w .1))
 
-      by-entries : (l′ : List ℕ) (p p′ : Progress) (c′ : Control) → p ≡ progress c false → c′ ≡ ended p′
+      by-entries : (l′ : List ℕ) (p p′ : Progress) (c′ : Control) → p ≡ progress c nothing → c′ ≡ ended p′
           → run l′ p′ ≡ walkOf (actBy program (q .scalars)) list (run l p)
           → state l′ c′ ≡ ranBy q list (state l c)
       unfolding ranBy
@@ -137,10 +149,10 @@ module _ (q : Queue) (l : List ℕ) (c : Control) (r : Reply) (asked : replyAnsw
           ∙ run-same (actBy program (q .scalars)) (act q) list (λ x m z. same-acts q program same x (entry-of x m) z) (run l p)
           ∙ ap (λ (b : Progress). walkOf (act q) list (run l b)) starts)
 
-      pub order-done : (l′ : List ℕ) (p p′ : Progress) (c′ : Control) → p ≡ progress c false → c′ ≡ ended p′
+      pub order-done : (l′ : List ℕ) (p p′ : Progress) (c′ : Control) → p ≡ progress c nothing → c′ ≡ ended p′
           → run l′ p′ ≡ walkOf (actBy program (q .scalars)) list (run l p)
-          → outcome (done 0) (state l′ c′) ≡ walkedRun q list (state l c)
+          → outcome (Done 0) (state l′ c′) ≡ walkedRun q list (state l c)
       order-done l′ p p′ c′ starts ends w =
-          ap (outcome (done 0)) (by-entries l′ p p′ c′ starts ends w)
+          ap (outcome (Done 0)) (by-entries l′ p p′ c′ starts ends w)
           ∙ sym (ap (byVerdict (state l c) (ranBy q list (state l c))) allowed)
-          ∙ walked
+          ∙ as-walked

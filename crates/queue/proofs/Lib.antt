@@ -1,31 +1,9 @@
--- Laws of queues and orders, and of the code.
-pub mod Tests
-pub mod Law
-pub mod Meaning
-pub mod SameCheck
-pub mod Places
-pub mod Binding
-pub mod Steps
+-- Laws of the two calls on a queue.
 pub mod Straight
-pub mod Contents
-pub mod Commute
-pub mod Ignoring
-pub mod ElementDoes
-pub mod IotaDoes
 pub mod Claim
 pub mod Accepting
 pub mod Through
 pub mod Calls
-pub mod Sets
-pub mod Filling
-pub mod Touching
-pub mod Groups
-pub mod Sweeping
-pub mod Coming
-pub mod CheckLoop
-pub mod Marking
-pub mod RunLoop
-pub mod Noting
 pub mod Verdicts
 pub mod Preparing
 pub mod DemandThree

@@ -12,15 +12,18 @@ use Rattle.numbers.specs.Choice.{pick}
 use Rattle.numbers.specs.Rising.{rising}
 use Rattle.numbers.proofs.Rising.{settles}
 use Rattle.numbers.proofs.Tests.{pick-true, pick-false}
-use Rattle.machine.specs.Kind.{kindOf, isIota}
+use Rattle.opcodes.specs.Opcodes.{inOneStep}
 use Rattle.machine.specs.Run.{Run}
 use Rattle.machine.specs.Instruction.{stepOf, stepsBelow, stepCount, wholeOf}
-use Rattle.queue.specs.Queue.{Queue, size, instructionAt, scalarAt, straight}
-use Rattle.queue.specs.Order.{Mem, run}
-use Rattle.queue.specs.Touch.{position, element, isStep, passing, stepsOf, act}
-use Rattle.queue.proofs.Places.{true-T, false-T}
-use Rattle.queue.proofs.RunLoop.{run-append}
-use Rattle.queue.proofs.Steps.{passing→, step-element, a-step}
+use Rattle.touch.specs.Parts.{Queue, size, instructionAt, scalarAt}
+use Rattle.queue.specs.Queue.{straight}
+use Rattle.order.specs.Order.{Mem, run}
+use Rattle.order.specs.Steps.{position, element, passing}
+use Rattle.touch.specs.Touch.{isStep, stepsOf, act}
+use Rattle.order.proofs.Tests.{true-T, false-T}
+use Rattle.order.proofs.RunLoop.{run-append}
+use Rattle.order.proofs.Passing.{passing→}
+use Rattle.touch.proofs.Steps.{step-element, makes-step}
 
 module _ (p : ℕ → Bool) where
   -- the first a numbers, and the b after them
@@ -95,7 +98,7 @@ module _ (q : Queue) (vlr : ℕ) (k : ℕ) (h : k < size q) where
   passes : (e : ℕ) → e < 64 → e < stepCount (instructionAt q k) vlr → isStep q vlr (k * 64 + e) ≡ true
   passes e b c =
       true-T _
-      (a-step q vlr (k * 64 + e) (rw (at-position q k e b) h)
+      (makes-step q vlr (k * 64 + e) (rw (at-position q k e b) h)
       (rw (at-element q k e b) (subst (λ (x : ℕ). e < stepCount (instructionAt q x) vlr) (sym (at-position q k e b)) c)))
 
   fails : (e : ℕ) → e < 64 → stepCount (instructionAt q k) vlr ≤ e → isStep q vlr (k * 64 + e) ≡ false
@@ -117,7 +120,8 @@ module _ (q : Queue) (vlr : ℕ) (k : ℕ) (h : k < size q) where
   whole-steps : vlr ≤ 64 → (r : Run) → r .progress .control .vlr ≡ vlr → rising (stepIf q (isStep q vlr) k) 64 r ≡ wholeOf (instructionAt q k) (scalarAt q k) r
   unfolding wholeOf
   whole-steps few r e =
-      sym (settles (stepIf q (isStep q vlr) k) (rising (stepIf q (isStep q vlr) k) count r) r count 64 most (λ j l b. pick-false (isStep q vlr (k * 64 + j)) _ _ (fails j b l)) refl)
+      sym (settles (stepIf q (isStep q vlr) k) (rising (stepIf q (isStep q vlr) k) count r) r count 64 most
+      (λ j l b. pick-false (isStep q vlr (k * 64 + j)) _ _ (fails j b l)) refl)
       ∙ first-steps count most (omega arith) r
       ∙ ap (λ (n : ℕ). stepsBelow (stepCount (instructionAt q k) n) (instructionAt q k) (scalarAt q k) r) (sym e)
     where
@@ -129,7 +133,7 @@ module _ (q : Queue) (vlr : ℕ) (k : ℕ) (h : k < size q) where
       few-steps false = few
 
       most : stepCount (instructionAt q k) vlr ≤ 64
-      most = few-steps (isIota (kindOf (instructionAt q k .work)))
+      most = few-steps (inOneStep (instructionAt q k))
 
 -- `keeps`: no step writes VLR
 module _ (q : Queue) (vlr : ℕ) (few : vlr ≤ 64) (r : Run)
@@ -140,7 +144,8 @@ module _ (q : Queue) (vlr : ℕ) (few : vlr ≤ 64) (r : Run)
     positions-straight zero b = refl
     positions-straight (suc m) b =
         next-position q m (isStep q vlr) r
-        ∙ whole-steps q vlr m b few (run (act q) (passing (isStep q vlr) 0 (m * 64)) r) (keeps (passing (isStep q vlr) 0 (m * 64)) (λ x i. passing→ (isStep q vlr) x 0 (m * 64) i .2))
+        ∙ whole-steps q vlr m b few (run (act q) (passing (isStep q vlr) 0 (m * 64)) r)
+        (keeps (passing (isStep q vlr) 0 (m * 64)) (λ x i. passing→ (isStep q vlr) x 0 (m * 64) i .2))
         ∙ ap (wholeOf (instructionAt q m) (scalarAt q m)) (positions-straight m (omega arith))
 
     -- THE QUEUE'S OWN ORDER

@@ -1,8 +1,4 @@
--- Queues of register instructions, and the orders in which their steps may run.
+-- Queues of register instructions: the two calls.
 pub mod Queue
-pub mod Touch
-pub mod Binds
-pub mod Order
 pub mod Run
-pub mod Reply
-pub mod Tables
+pub mod CallsWorking

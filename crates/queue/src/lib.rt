@@ -1,56 +1,20 @@
-// Queues of register instructions.
+// The two calls on a queue of register instructions: straight through, and by a list of its steps.
 use machine::run;
+use order;
+use order::Verdict;
 use state::Control;
+use state::answer;
+use state::answer::Answer;
+use state::answer::Ended;
+use touch;
 ghost use mathlib.Core.Path.{_≡_};
+ghost use Rattle.state.specs.Outcome.{outcome};
 ghost use Rattle.state.specs.State.{state};
-ghost use Rattle.queue.specs.Queue.{fine};
-ghost use Rattle.queue.specs.Reply.{queue, replyAnswer};
-ghost use Rattle.queue.specs.Run.{outcome, queueRun, walkedRun, orderedRun};
+ghost use Rattle.touch.specs.Parts.{queue};
+ghost use Rattle.queue.specs.Run.{queueRun, walkedRun, orderedRun};
 
 mod acceptance;
-mod bound;
-mod order;
 mod runs;
-
-// What the check of an order list says.
-pub enum Verdict {
-    Permitted,
-    Refused(u64),
-}
-
-// What a call on a queue gives back: done, or why it is refused and where.
-pub enum Reply {
-    Done,
-    StateOutOfRange,
-    QueueRefused,
-    Disabled,
-    ReservedOpcode(u64),
-    MemoryOpcode(u64),
-    ReservedControlWord(u64),
-    OrderRefused(u64),
-}
-
-// A call's reply, and the control record after it.
-pub struct Ran {
-    pub reply: Reply,
-    pub control: Control,
-}
-
-// Nothing is refused.
-fn is_done(reply: Reply) -> bool
-    ensures { λ r. ⌜ r ≡ fine (replyAnswer reply) ⌝ }
-{
-    match reply {
-        Reply::Done => true,
-        Reply::StateOutOfRange => false,
-        Reply::QueueRefused => false,
-        Reply::Disabled => false,
-        Reply::ReservedOpcode(_) => false,
-        Reply::MemoryOpcode(_) => false,
-        Reply::ReservedControlWord(_) => false,
-        Reply::OrderRefused(_) => false,
-    }
-}
 
 // A queue, straight through: each instruction is done whole on what the last one left.
 pub fn run(
@@ -59,18 +23,18 @@ pub fn run(
     opcodes: &[u8],
     cntrls: &[u16],
     scalars: &[u64],
-) -> Ran
-    ensures { λ r. ⌜ outcome (replyAnswer (r .reply)) (state (now (elements .exit)) (r .control)) ≡ queueRun (queue (now (opcodes .entry)) (now (cntrls .entry)) (now (scalars .entry))) (state (now (elements .entry)) control) ⌝ }
+) -> Ended
+    ensures { λ r. ⌜ outcome (r .answer) (state (now (elements .exit)) (r .control)) ≡ queueRun (queue (now (opcodes .entry)) (now (cntrls .entry)) (now (scalars .entry))) (state (now (elements .entry)) control) ⌝ }
 {
     let accepted = acceptance::accept(control, opcodes, cntrls, scalars);
-    let reply = accepted.reply;
-    if !is_done(reply) {
-        return Ran { reply, control };
+    let given = accepted.answer;
+    if !answer::is_done(given) {
+        return answer::refused(given, control);
     }
     let program = accepted.program;
     let progress = runs::straight(elements, run::begin(control), program, scalars);
-    Ran {
-        reply: Reply::Done,
+    Ended {
+        answer: Answer::Done(0),
         control: run::end(progress),
     }
 }
@@ -84,14 +48,14 @@ pub fn run_order(
     cntrls: &[u16],
     scalars: &[u64],
     list: &[u64],
-) -> Ran
-    ensures straight { λ r. ⌜ outcome (replyAnswer (r .reply)) (state (now (elements .exit)) (r .control)) ≡ orderedRun (queue (now (opcodes .entry)) (now (cntrls .entry)) (now (scalars .entry))) (now (list .entry)) (state (now (elements .entry)) control) ⌝ }
-    ensures walked { λ r. ⌜ outcome (replyAnswer (r .reply)) (state (now (elements .exit)) (r .control)) ≡ walkedRun (queue (now (opcodes .entry)) (now (cntrls .entry)) (now (scalars .entry))) (now (list .entry)) (state (now (elements .entry)) control) ⌝ }
+) -> Ended
+    ensures straight { λ r. ⌜ outcome (r .answer) (state (now (elements .exit)) (r .control)) ≡ orderedRun (queue (now (opcodes .entry)) (now (cntrls .entry)) (now (scalars .entry))) (now (list .entry)) (state (now (elements .entry)) control) ⌝ }
+    ensures walked { λ r. ⌜ outcome (r .answer) (state (now (elements .exit)) (r .control)) ≡ walkedRun (queue (now (opcodes .entry)) (now (cntrls .entry)) (now (scalars .entry))) (now (list .entry)) (state (now (elements .entry)) control) ⌝ }
 {
     let accepted = acceptance::accept(control, opcodes, cntrls, scalars);
-    let reply = accepted.reply;
-    if !is_done(reply) {
-        return Ran { reply, control };
+    let given = accepted.answer;
+    if !answer::is_done(given) {
+        return answer::refused(given, control);
     }
     let mut bound = [0u64; 16];
     let mut readers = [0u64; 18];
@@ -99,7 +63,7 @@ pub fn run_order(
     let mut k: usize = 0;
     while k < opcodes.len() {
         let instruction = accepted.program[k];
-        bound[k] = bound::bind(instruction, k, &mut readers, &mut writers);
+        bound[k] = touch::bind(instruction, k, &mut readers, &mut writers);
         k += 1;
     }
     // Only IOTAs write the count, place 17.
@@ -107,14 +71,11 @@ pub fn run_order(
         Verdict::Permitted => {
             let program = accepted.program;
             let progress = runs::walk(elements, run::begin(control), program, scalars, list);
-            Ran {
-                reply: Reply::Done,
+            Ended {
+                answer: Answer::Done(0),
                 control: run::end(progress),
             }
         }
-        Verdict::Refused(place) => Ran {
-            reply: Reply::OrderRefused(place),
-            control,
-        },
+        Verdict::Refused(place) => answer::refused(Answer::OrderRefused(place), control),
     }
 }

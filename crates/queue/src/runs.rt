@@ -7,9 +7,9 @@ ghost use mathlib.Core.Path.{_≡_};
 ghost use Prim.Native.Nat.{ℕ, _≤_, _<_};
 ghost use lib.ListN.{length, getD};
 ghost use Rattle.machine.specs.Run.{run as runOf};
-ghost use Rattle.queue.specs.Order.{run};
-ghost use Rattle.queue.specs.Touch.{position};
-ghost use Rattle.queue.specs.Tables.{Below, decodedAt, actBy, throughBy};
+ghost use Rattle.order.specs.Order.{run};
+ghost use Rattle.order.specs.Steps.{position};
+ghost use Rattle.queue.specs.CallsWorking.{Runs, decodedAt, actBy, throughBy};
 
 // Each instruction in queue order, done whole on what the last one left.
 pub fn straight(
@@ -19,7 +19,7 @@ pub fn straight(
     scalars: &[u64],
 ) -> Progress
     requires { ⌜ (begun .control .vlr ≤ 64) × (length (now scalars) ≤ 16) ⌝ }
-    requires { ⌜ ((k : ℕ) → k < length (now scalars) → Below (decodedAt program k)) ⌝ }
+    requires { ⌜ ((k : ℕ) → k < length (now scalars) → Runs (decodedAt program k)) ⌝ }
     ensures { λ r. ⌜ runOf (now (elements .exit)) r ≡ throughBy program (now (scalars .entry)) (length (now (scalars .entry))) (runOf (now (elements .entry)) begun) ⌝ }
 {
     let mut progress = begun;
@@ -41,7 +41,7 @@ fn enter(
     x: u64,
 ) -> Progress
     requires { ⌜ (begun .control .vlr ≤ 64) × (length (now scalars) ≤ 16) × (position x < length (now scalars)) ⌝ }
-    requires { ⌜ ((k : ℕ) → k < length (now scalars) → Below (decodedAt program k)) ⌝ }
+    requires { ⌜ ((k : ℕ) → k < length (now scalars) → Runs (decodedAt program k)) ⌝ }
     ensures { λ r. ⌜ runOf (now (elements .exit)) r ≡ actBy program (now (scalars .entry)) x (runOf (now (elements .entry)) begun) ⌝ }
 {
     let p = (x / 64) as usize;
@@ -64,7 +64,7 @@ pub fn walk(
     list: &[u64],
 ) -> Progress
     requires { ⌜ (begun .control .vlr ≤ 64) × (length (now scalars) ≤ 16) ⌝ }
-    requires { ⌜ ((k : ℕ) → k < length (now scalars) → Below (decodedAt program k)) ⌝ }
+    requires { ⌜ ((k : ℕ) → k < length (now scalars) → Runs (decodedAt program k)) ⌝ }
     requires { ⌜ ((i : ℕ) → i < length (now list) → position (getD (now list) i 0) < length (now scalars)) ⌝ }
     ensures { λ r. ⌜ runOf (now (elements .exit)) r ≡ run (actBy program (now (scalars .entry))) (now (list .entry)) (runOf (now (elements .entry)) begun) ⌝ }
 {

@@ -5,8 +5,7 @@ use Prim.Native.Nat.{ℕ, zero, suc, _*_, _/_, _%_}
 use lib.Dec.{leb, eqb}
 use lib.ListN.{length, take, drop, getD, set}
 use Rattle.numbers.specs.Bytes.{numberOf, allZero}
-use Rattle.queue.specs.Queue.{Queue}
-use Rattle.queue.specs.Reply.{queue}
+use Rattle.touch.specs.Parts.{Queue, queue}
 
 -- the 16 bytes of record k
 abbrev pub recordAt : List ℕ → ℕ → List ℕ

@@ -12,9 +12,12 @@ use lib.ListN.{length, take, drop, set, getD, length-append, drop-of-length-le}
 use lib.Seq.{drop-cons, set-at, append-snoc}
 use borrow.Author.Tests.{eq-eqb, ne-eqb, le-leb, lt-leb, eqb-true, leb-true}
 use Rattle.numbers.specs.Choice.{pick}
-use Rattle.numbers.proofs.Tests.{and-left, and-right, pick-true, pick-false}
-use Rattle.state.specs.Answer.{done, badFile}
+use Rattle.numbers.proofs.Tests.{and-left, and-right}
+use Rattle.state.specs.declared.answer.Answer.the-variants.{Done, BadFile}
+use Rattle.state.specs.declared.answer.Ended.{Ended}
+use Rattle.state.specs.Outcome.{outcome, refused}
 use Rattle.state.specs.State.{State, state}
+use Rattle.state.proofs.Refusing.{refuses-state}
 use Rattle.state.specs.declared.Control.{Control}
 use Rattle.saved.specs.Load.{recordAt, contentsIn, goodPart, goodRecord, leading, accepted, elementsIn, controlIn, firstContents, stateIn, loading}
 
@@ -23,13 +26,18 @@ pub cut : (file : List ℕ) (k : ℕ) → length file < k * 16 + 16 → goodReco
 unfolding goodRecord
 cut file k h = ap (λ (b : Bool). b && goodPart (recordAt file k) k) (lt-leb (k * 16 + 16) (length file) h)
 
+-- the part that is lent for record k is that record
+pub part-is : {A : Type 0} (f : List ℕ → A) (records : List ℕ) (k : ℕ) (v : A)
+    → v ≡ f (take (k * 16 + 16 - k * 16) (drop (k * 16) records)) → v ≡ f (recordAt records k)
+part-is f records k v e = let n : k * 16 + 16 - k * 16 ≡ 16 = omega arith in rw n at e
+
 -- record k is there, so that its own bytes decide
-pub whole : (file : List ℕ) (k : ℕ) (b : Bool) → k * 16 + 16 ≤ length file → b ≡ goodPart (take (k * 16 + 16 - k * 16) (drop (k * 16) file)) k → goodRecord file k ≡ b
+pub whole : (file : List ℕ) (k : ℕ) (b : Bool) → k * 16 + 16 ≤ length file
+    → b ≡ goodPart (take (k * 16 + 16 - k * 16) (drop (k * 16) file)) k → goodRecord file k ≡ b
 unfolding goodRecord
 whole file k b h e =
-    let n : k * 16 + 16 - k * 16 ≡ 16 = omega arith in
     ap (λ (t : Bool). t && goodPart (recordAt file k) k) (le-leb (k * 16 + 16) (length file) h)
-    ∙ sym (e ∙ ap (λ (m : ℕ). goodPart (take m (drop (k * 16) file)) k) n)
+    ∙ sym (part-is (λ (part : List ℕ). goodPart part k) file k b e)
 
 pub starts : (file : List ℕ) → leading 0 file ≡ 0
 unfolding leading
@@ -38,40 +46,28 @@ starts file = refl
 -- a good record after k good ones makes them k + 1
 pub turns : (file : List ℕ) (k : ℕ) → leading k file ≡ k → goodRecord file k ≡ true → leading (k + 1) file ≡ k + 1
 unfolding leading
-turns file k e g =
-    let t : (eqb (leading k file) k && goodRecord file k) ≡ true =
-    ap (λ (b : Bool). b && goodRecord file k) (eq-eqb (leading k file) k e) ∙ g in
-    ap (λ (n : ℕ). leading n file) (add-one k) ∙ ap (λ (b : Bool). pick b (suc k) (leading k file)) t ∙ sym (add-one k)
+turns file k e g = let t = eq-eqb (leading k file) k e in rw (add-one k, t, g)
 
 -- a bad record after k good ones stops the count there
 pub stops : (n : ℕ) (file : List ℕ) (k : ℕ) → k < n → leading k file ≡ k → goodRecord file k ≡ false → leading n file ≡ k
 unfolding leading
 stops zero file k h e g = absurd (not-suc-le-zero h)
 stops (suc n) file k h e g =
-    ⊎-elim (λ (q : k ≡ n). at-it q) (λ (l : k < n). past l (stops n file k l e g)) (eq-or-lt-of-le (le-of-suc-le-suc h))
-  where
-    at-it : k ≡ n → leading (suc n) file ≡ k
-    at-it q =
-        ap (λ (m : ℕ). leading (suc m) file) (sym q)
-        ∙ ap (λ (b : Bool). pick (eqb (leading k file) k && b) (suc k) (leading k file)) g
-        ∙ ap (λ (b : Bool). pick b (suc k) (leading k file)) (and-false (eqb (leading k file) k))
-        ∙ e
-
-    past : k < n → leading n file ≡ k → leading (suc n) file ≡ k
-    past l i =
-        let ne : eqb (leading n file) n ≡ false = ne-eqb (leading n file) n (λ q. omega arith) in
-        ap (λ (b : Bool). pick (b && goodRecord file n) (suc n) (leading n file)) ne ∙ i
+    ⊎-elim
+    (λ (q : k ≡ n). rw (← q, g, and-false (eqb (leading k file) k)) e)
+    (λ (l : k < n).
+    let i = stops n file k l e g in
+    let ne : eqb (leading n file) n ≡ false = ne-eqb (leading n file) n (λ q. omega arith) in
+    rw ne i)
+    (eq-or-lt-of-le (le-of-suc-le-suc h))
 
 pub ends : (file : List ℕ) (k : ℕ) → k ≤ 1029 → 1029 ≤ k → leading k file ≡ k → leading 1029 file ≡ k
-ends file k h h′ e =
-    let n : 1029 ≡ k = omega arith in
-    ap (λ (m : ℕ). leading m file) n ∙ e
+ends file k h h′ e = let n : 1029 ≡ k = omega arith in rw n e
 
 -- the contents of record k, lent as a part
-pub contents-part : (file : List ℕ) (k v : ℕ) → v ≡ contentsIn (take (k * 16 + 16 - k * 16) (drop (k * 16) file)) → v ≡ contentsIn (recordAt file k)
-contents-part file k v e =
-    let n : k * 16 + 16 - k * 16 ≡ 16 = omega arith in
-    e ∙ ap (λ (m : ℕ). contentsIn (take m (drop (k * 16) file))) n
+pub contents-part : (file : List ℕ) (k v : ℕ) → v ≡ contentsIn (take (k * 16 + 16 - k * 16) (drop (k * 16) file))
+    → v ≡ contentsIn (recordAt file k)
+contents-part = part-is contentsIn
 
 pub fill-starts : (file old : List ℕ) → old ≡ elementsIn 0 file old
 unfolding elementsIn
@@ -79,16 +75,15 @@ fill-starts file old = refl
 
 pub fill-turns : (file old now : List ℕ) (k v : ℕ) → now ≡ elementsIn k file old → v ≡ contentsIn (recordAt file k) → set now k v ≡ elementsIn (k + 1) file old
 unfolding elementsIn
-fill-turns file old now k v e ev =
-    ap (λ (l : List ℕ). set l k v) e ∙ ap (set (elementsIn k file old) k) ev ∙ ap (λ (n : ℕ). elementsIn n file old) (sym (add-one k))
+fill-turns file old now k v e ev = rw (e, ev, add-one k)
 
 pub fill-ends : (file old now : List ℕ) (k : ℕ) → k ≤ 1024 → 1024 ≤ k → now ≡ elementsIn k file old → now ≡ elementsIn 1024 file old
-fill-ends file old now k h h′ e =
-    let n : k ≡ 1024 = omega arith in
-    e ∙ ap (λ (m : ℕ). elementsIn m file old) n
+fill-ends file old now k h h′ e = let n : k ≡ 1024 = omega arith in rw n at e
 
-pub control-made : (file : List ℕ) (vlr vmr vcr vaer vpsr : ℕ) → vlr ≡ contentsIn (recordAt file 1024) → vmr ≡ contentsIn (recordAt file 1025) → vcr ≡ contentsIn (recordAt file 1026)
-    → vaer ≡ contentsIn (recordAt file 1027) → vpsr ≡ contentsIn (recordAt file 1028) → _≡_ {A = Control} (record { vlr = vlr; vmr = vmr; vcr = vcr; vaer = vaer; vpsr = vpsr }) (controlIn file)
+pub control-made : (file : List ℕ) (vlr vmr vcr vaer vpsr : ℕ) → vlr ≡ contentsIn (recordAt file 1024)
+    → vmr ≡ contentsIn (recordAt file 1025) → vcr ≡ contentsIn (recordAt file 1026) → vaer ≡ contentsIn (recordAt file 1027)
+    → vpsr ≡ contentsIn (recordAt file 1028)
+    → _≡_ {A = Control} (record { vlr = vlr; vmr = vmr; vcr = vcr; vaer = vaer; vpsr = vpsr }) (controlIn file)
 unfolding controlIn
 control-made file vlr vmr vcr vaer vpsr e₀ e₁ e₂ e₃ e₄ = λ i. record { vlr = e₀ i; vmr = e₁ i; vcr = e₂ i; vaer = e₃ i; vpsr = e₄ i }
 
@@ -106,8 +101,9 @@ pub last-good : (n : ℕ) (file : List ℕ) → leading (suc n) file ≡ suc n �
 unfolding leading
 last-good n file e = either (eqb (leading n file) n && goodRecord file n) refl e
   where
-    either : (b : Bool) → (eqb (leading n file) n && goodRecord file n) ≡ b → pick b (suc n) (leading n file) ≡ suc n → (leading n file ≡ n) × (goodRecord file n ≡ true)
-    either true t q = (eqb-true (leading n file) n (and-left (eqb (leading n file) n) (goodRecord file n) t), and-right (eqb (leading n file) n) (goodRecord file n) t)
+    either : (b : Bool) → (eqb (leading n file) n && goodRecord file n) ≡ b → pick b (suc n) (leading n file) ≡ suc n
+        → (leading n file ≡ n) × (goodRecord file n ≡ true)
+    either true t q = (eqb-true (leading n file) n (and-left _ (goodRecord file n) t), and-right (eqb (leading n file) n) _ t)
     either false t q = absurd (omega (arith, at-most n file))
 
 -- a good record is there whole
@@ -126,19 +122,15 @@ module _ (file : List ℕ) (k : ℕ) (e : k ≡ leading 1029 file) where
       let n : k ≡ 1029 = eqb-true k 1029 (and-left (eqb k 1029) (leb (length file) 16464) t) in
       good-whole file 1028 (last-good 1028 file (sym e ∙ n) .1)
 
-  pub loads : (els old : List ℕ) (c c₀ : Control) → (eqb k 1029 && leb (length file) 16464) ≡ true → els ≡ elementsIn 1024 file old → c ≡ controlIn file → (done 0, state els c) ≡ loading file (state old c₀)
+  pub loads : (els old : List ℕ) (c c₀ : Control) → (eqb k 1029 && leb (length file) 16464) ≡ true → els ≡ elementsIn 1024 file old → c ≡ controlIn file
+      → outcome (Done 0) (state els c) ≡ loading file (state old c₀)
   unfolding loading
-  loads els old c c₀ t q p =
-      let a : accepted file ≡ true = sym judged ∙ t in
-      (λ i. (done 0, state (q i) (p i)))
-      ∙ sym (pick-true (accepted file) _ _ a)
+  loads els old c c₀ t q p = let a = sym judged ∙ t in rw (q, p, a)
 
-  pub refuses : (s : State) → (eqb k 1029 && leb (length file) 16464) ≡ false → (badFile k, s) ≡ loading file s
+  pub refuses : (s : State) (r : Ended) → (eqb k 1029 && leb (length file) 16464) ≡ false → outcome (r .answer) (r .control) ≡ refused (BadFile k) (s .control)
+      → outcome (r .answer) (state (s .elements) (r .control)) ≡ loading file s
   unfolding loading
-  refuses s t =
-      let a : accepted file ≡ false = sym judged ∙ t in
-      ap (λ (n : ℕ). (badFile n, s)) e
-      ∙ sym (pick-false (accepted file) _ _ a)
+  refuses s r t d = let a = sym judged ∙ t in rw (a, ← e) (refuses-state s (BadFile k) r d)
 
 first-length : (n : ℕ) (file : List ℕ) → length (firstContents n file) ≡ n
 unfolding firstContents
@@ -163,4 +155,4 @@ unfolding stateIn
 gives-state file old e =
     let h : 1024 ≤ length old = omega arith in
     let d : length old ≤ 1024 = omega arith in
-    ap (λ (l : List ℕ). state l (controlIn file)) (filled 1024 file old h ∙ ap (λ (l : List ℕ). firstContents 1024 file ++ l) (drop-of-length-le old d) ∙ append-nil (firstContents 1024 file))
+    ap (λ (l : List ℕ). state l (controlIn file)) (filled 1024 file old h ∙ rw (drop-of-length-le old d) (append-nil (firstContents 1024 file)))

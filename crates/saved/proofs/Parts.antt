@@ -38,8 +38,8 @@ head-tells (a ∷ b ∷ l) k e h = either (numberOf (take 6 l)) ∙ ap (λ (t : 
         ∙ sym (ap (λ (t : Bool). eqb (a + 256 * (b + 0)) k && t) (ne-eqb (suc n) 0 (λ q. omega arith)) ∙ and-false (eqb (a + 256 * (b + 0)) k))
 
 -- so that the two tests of a record are the definition's three
-pub parts : (part : List ℕ) (k : ℕ) → length part ≡ 16 → k < 65536 → (head : ℕ) → head ≡ numberOf (take 8 part) → (v : ℕ) → v ≡ contentsIn part → (ranged : Bool) → ranged ≡ contentsInRange k v
-    → (eqb head k && ranged) ≡ goodPart part k
+pub parts : (part : List ℕ) (k : ℕ) → length part ≡ 16 → k < 65536 → (head : ℕ) → head ≡ numberOf (take 8 part)
+    → (v : ℕ) → v ≡ contentsIn part → (ranged : Bool) → ranged ≡ contentsInRange k v → (eqb head k && ranged) ≡ goodPart part k
 unfolding goodPart
 parts part k e h head p v q ranged r =
     ap₂ (λ (s t : Bool). s && t) (ap (λ (n : ℕ). eqb n k) p ∙ head-tells part k e h) (r ∙ ap (contentsInRange k) q)

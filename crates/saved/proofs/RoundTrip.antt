@@ -1,5 +1,5 @@
 -- Loading what was saved gives that state back, and a file that loads is the one its state would save. Assumes nothing.
-use mathlib.Core.Bool.{Bool, true, false, _&&_}
+use mathlib.Core.Bool.{Bool, true, false}
 use mathlib.Core.List.{List, _++_}
 use mathlib.Core.Logic.{⊎-elim}
 use mathlib.Core.Path.{_≡_, refl, sym, ap, _∙_, subst}
@@ -7,18 +7,21 @@ use Prim.Native.Nat.{ℕ, zero, suc, _+_, _*_, _-_, _^_, _≤_, _<_}
 use native.Mathlib.Nat.{eq-or-lt-of-le, le-of-suc-le-suc, not-suc-le-zero}
 use native.Mathlib.Omega.{arith}
 use lib.Dec.{eqb, leb, ltb}
-use lib.ListN.{length, getD, take, drop, set, length-drop, length-set, take-append-drop, List·getD-eq-default}
+use lib.ListN.{length, getD, take, drop, length-drop, length-set, take-append-drop, List·getD-eq-default}
 use lib.Seq.{take-all, take-at, drop-at, take-append-le, drop-append-le, drop-drop, take-add, length-take-le, getD-set-same, getD-set-other, ext-getD}
 use borrow.Author.Tests.{eq-eqb, eqb-true, leb-true, ltb-true, le-leb, lt-ltb}
 use Rattle.numbers.specs.Bytes.{Bytes, bytesOf, numberOf, allZero}
 use Rattle.numbers.specs.Choice.{pick}
 use Rattle.numbers.proofs.LittleEndian.{bytes-take, bytes-drop, number-back, bytes-back, zeros-back, number-below}
-use Rattle.numbers.proofs.Tests.{and-left, and-right, and-both, and-four, pick-true, below-or-not}
-use Rattle.state.specs.Answer.{Answer, done, badFile}
+use Rattle.numbers.proofs.Tests.{and-left, and-right, and-both, and-four, pick-true, pick-false, below-or-not}
+use Rattle.state.specs.declared.answer.Answer.the-variants.{Done, BadFile}
+use Rattle.state.specs.Answer.{isDone}
+use Rattle.state.specs.Outcome.{Outcome, outcome, refusedState}
 use Rattle.state.specs.State.{State, state, inRange, lengthInRange, vaerInRange, vpsrInRange}
 use Rattle.state.specs.declared.Control.{Control}
 use Rattle.saved.specs.File.{contentsOf, recordBytes, records, fileOf, Held}
-use Rattle.saved.specs.Load.{recordAt, numberIn, fillerIn, contentsIn, contentsInRange, goodPart, goodRecord, leading, accepted, elementsIn, controlIn, loading}
+use Rattle.saved.specs.Load.{recordAt, numberIn, fillerIn, contentsIn, contentsInRange, goodPart, goodRecord, leading}
+use Rattle.saved.specs.Load.{accepted, elementsIn, controlIn, loading}
 use Rattle.saved.specs.Save.{saving}
 use Rattle.saved.proofs.Saving.{record-length, records-length, file-length, saves-done}
 use Rattle.saved.proofs.Loading.{good-whole, last-good, control-made}
@@ -41,18 +44,16 @@ module _ (k v : ℕ) (hk : k < 65536) (hv : v < 2 ^ 64) where
 record-back : (part : List ℕ) (k : ℕ) → length part ≡ 16 → Bytes part → goodPart part k ≡ true → recordBytes k (contentsIn part) ≡ part
 unfolding goodPart recordBytes
 record-back part k e h g =
-    let rest = and-right (eqb (numberIn part) k) (allZero (fillerIn part) && contentsInRange k (contentsIn part)) g in
-    let n : numberIn part ≡ k = eqb-true (numberIn part) k (and-left (eqb (numberIn part) k) (allZero (fillerIn part) && contentsInRange k (contentsIn part)) g) in
-    let z : allZero (fillerIn part) ≡ true = and-left (allZero (fillerIn part)) (contentsInRange k (contentsIn part)) rest in
+    let n : numberIn part ≡ k = eqb-true (numberIn part) k (and-left (eqb (numberIn part) k) _ g) in
+    let z : allZero (fillerIn part) ≡ true = and-left (allZero (fillerIn part)) _ (and-right (eqb (numberIn part) k) _ g) in
     let l₂ : length (take 2 part) ≡ 2 = length-take-le 2 part (omega arith) in
     let d₂ : length (drop 2 part) ≡ 14 = length-drop 2 part ∙ omega arith in
     let l₆ : length (fillerIn part) ≡ 6 = length-take-le 6 (drop 2 part) (omega arith) in
     let l₈ : length (drop 8 part) ≡ 8 = length-drop 8 part ∙ omega arith in
-    let a : bytesOf 2 k ≡ take 2 part =
-    ap (bytesOf 2) (sym n) ∙ ap (λ (m : ℕ). bytesOf m (numberIn part)) (sym l₂) ∙ bytes-back (take 2 part) (bytes-take 2 part h) in
-    let b : bytesOf 6 0 ≡ fillerIn part = ap (λ (m : ℕ). bytesOf m 0) (sym l₆) ∙ sym (zeros-back (fillerIn part) z) in
-    let c : bytesOf 8 (contentsIn part) ≡ drop 8 part = ap (λ (m : ℕ). bytesOf m (contentsIn part)) (sym l₈) ∙ bytes-back (drop 8 part) (bytes-drop 8 part h) in
-    (λ i. a i ++ (b i ++ c i))
+    let a : bytesOf 2 k ≡ take 2 part = rw (l₂, n) at (bytes-back (take 2 part) (bytes-take 2 part h)) in
+    let b : fillerIn part ≡ bytesOf 6 0 = rw l₆ at (zeros-back (fillerIn part) z) in
+    let c : bytesOf 8 (contentsIn part) ≡ drop 8 part = rw l₈ at (bytes-back (drop 8 part) (bytes-drop 8 part h)) in
+    (λ i. a i ++ (sym b i ++ c i))
     ∙ ap (λ (t : List ℕ). take 2 part ++ (fillerIn part ++ t)) (sym (drop-drop 6 2 part))
     ∙ ap (λ (t : List ℕ). take 2 part ++ t) (take-append-drop 6 (drop 2 part))
     ∙ take-append-drop 2 part
@@ -64,22 +65,22 @@ record-at : (n k : ℕ) (s : State) → k < n → recordAt (records n s) k ≡ r
 unfolding records
 record-at zero k s h = absurd (not-suc-le-zero h)
 record-at (suc n) k s h =
-    ⊎-elim (λ (q : k ≡ n). last q) (λ (l : k < n). earlier l (record-at n k s l)) (eq-or-lt-of-le (le-of-suc-le-suc h))
+    ⊎-elim (λ (q : k ≡ n). rw q last) (λ (l : k < n). earlier l ∙ record-at n k s l) (eq-or-lt-of-le (le-of-suc-le-suc h))
   where
-    last : k ≡ n → recordAt (records n s ++ recordBytes n (contentsOf s n)) k ≡ recordBytes k (contentsOf s k)
-    last q =
-        ap (recordAt (records n s ++ recordBytes n (contentsOf s n))) q
-        ∙ ap (take 16) (drop-at (records n s) (recordBytes n (contentsOf s n)) (n * 16) (records-length n s))
-        ∙ take-all 16 (recordBytes n (contentsOf s n)) (omega (arith, record-length n (contentsOf s n)))
-        ∙ ap (λ (m : ℕ). recordBytes m (contentsOf s m)) (sym q)
+    new : List ℕ
+    new = recordBytes n (contentsOf s n)
 
-    earlier : k < n → recordAt (records n s) k ≡ recordBytes k (contentsOf s k) → recordAt (records n s ++ recordBytes n (contentsOf s n)) k ≡ recordBytes k (contentsOf s k)
-    earlier l i =
+    last : recordAt (records n s ++ new) n ≡ new
+    last =
+        ap (take 16) (drop-at (records n s) new (n * 16) (records-length n s))
+        ∙ take-all 16 new (omega (arith, record-length n (contentsOf s n)))
+
+    earlier : k < n → recordAt (records n s ++ new) k ≡ recordAt (records n s) k
+    earlier l =
         let n′ : length (records n s) ≡ n * 16 = records-length n s in
         let d : length (drop (k * 16) (records n s)) ≡ length (records n s) - k * 16 = length-drop (k * 16) (records n s) in
-        ap (take 16) (drop-append-le (k * 16) (records n s) (recordBytes n (contentsOf s n)) (omega arith))
-        ∙ take-append-le 16 (drop (k * 16) (records n s)) (recordBytes n (contentsOf s n)) (omega arith)
-        ∙ i
+        ap (take 16) (drop-append-le (k * 16) (records n s) new (omega arith))
+        ∙ take-append-le 16 (drop (k * 16) (records n s)) new (omega arith)
 
 -- a fact of each record, shown for the elements and for each of the five others
 by-record : (P : ℕ → Type 0) → ((k : ℕ) → k < 1024 → P k) → P 1024 → P 1025 → P 1026 → P 1027 → P 1028 → (k : ℕ) → k < 1029 → P k
@@ -94,7 +95,7 @@ unfolding leading
 all-lead zero file g = refl
 all-lead (suc n) file g =
     let i : leading n file ≡ n = all-lead n file (λ k h. g k (omega arith)) in
-    ap (λ (b : Bool). pick b (suc n) (leading n file)) (and-both (eqb (leading n file) n) (goodRecord file n) (eq-eqb (leading n file) n i) (g n (omega arith)))
+    ap (λ (b : Bool). pick b (suc n) (leading n file)) (and-both _ _ (eq-eqb (leading n file) n i) (g n (omega arith)))
 
 all-good : (n : ℕ) (file : List ℕ) → leading n file ≡ n → (k : ℕ) → k < n → goodRecord file k ≡ true
 all-good zero file e k h = absurd (not-suc-le-zero h)
@@ -115,20 +116,15 @@ element-at : (n : ℕ) (file old : List ℕ) (i : ℕ) → n ≤ length old → 
 unfolding elementsIn
 element-at zero file old i h l = absurd (not-suc-le-zero l)
 element-at (suc n) file old i h l =
-    ⊎-elim (λ (q : i ≡ n). this q) (λ (m : i < n). other m (element-at n file old i (omega arith) m)) (eq-or-lt-of-le (le-of-suc-le-suc l))
-  where
-    this : i ≡ n → getD (set (elementsIn n file old) n (contentsIn (recordAt file n))) i 0 ≡ contentsIn (recordAt file i)
-    this q =
-        ap (λ (m : ℕ). getD (set (elementsIn n file old) n (contentsIn (recordAt file n))) m 0) q
-        ∙ getD-set-same (elementsIn n file old) n (contentsIn (recordAt file n)) 0 (omega (arith, elements-length n file old))
-        ∙ ap (λ (m : ℕ). contentsIn (recordAt file m)) (sym q)
-
-    other : i < n → getD (elementsIn n file old) i 0 ≡ contentsIn (recordAt file i) → getD (set (elementsIn n file old) n (contentsIn (recordAt file n))) i 0 ≡ contentsIn (recordAt file i)
-    other m e = getD-set-other (elementsIn n file old) n i (contentsIn (recordAt file n)) 0 (λ q. omega arith) ∙ e
+    ⊎-elim
+    (λ (q : i ≡ n). rw q (getD-set-same (elementsIn n file old) n _ 0 (omega (arith, elements-length n file old))))
+    (λ (m : i < n). getD-set-other (elementsIn n file old) n i _ 0 (λ q. omega arith) ∙ element-at n file old i (omega arith) m)
+    (eq-or-lt-of-le (le-of-suc-le-suc l))
 
 -- ---- a state in range
 
-pub ranges : (c : Control) → inRange c ≡ true → (lengthInRange (c .vlr) ≡ true) × (lengthInRange (c .vcr) ≡ true) × (vaerInRange (c .vaer) ≡ true) × (vpsrInRange (c .vpsr) ≡ true)
+pub ranges : (c : Control) → inRange c ≡ true
+    → (lengthInRange (c .vlr) ≡ true) × (lengthInRange (c .vcr) ≡ true) × (vaerInRange (c .vaer) ≡ true) × (vpsrInRange (c .vpsr) ≡ true)
 unfolding inRange
 ranges c e = and-four (lengthInRange (c .vlr)) (lengthInRange (c .vcr)) (vaerInRange (c .vaer)) (vpsrInRange (c .vpsr)) e
 
@@ -206,18 +202,15 @@ module _ (s : State) (held : Held s) where
   unfolding contentsOf
   saved-control =
       sym (control-made (fileOf s) (s .control .vlr) (s .control .vmr) (s .control .vcr) (s .control .vaer) (s .control .vpsr)
-      (sym (saved-contents 1024 (omega arith)))
-      (sym (saved-contents 1025 (omega arith)))
-      (sym (saved-contents 1026 (omega arith)))
-      (sym (saved-contents 1027 (omega arith)))
-      (sym (saved-contents 1028 (omega arith))))
+      (sym (saved-contents 1024 (omega arith))) (sym (saved-contents 1025 (omega arith))) (sym (saved-contents 1026 (omega arith)))
+      (sym (saved-contents 1027 (omega arith))) (sym (saved-contents 1028 (omega arith))))
 
   -- loading what was saved gives that state back, whatever state was there
-  pub saved-loads : (old : State) → length (old .elements) ≡ 1024 → loading (fileOf s) old ≡ (done 0, s)
+  pub saved-loads : (old : State) → length (old .elements) ≡ 1024 → loading (fileOf s) old ≡ outcome (Done 0) s
   unfolding loading
   saved-loads old e =
       pick-true (accepted (fileOf s)) _ _ saved-accepted
-      ∙ (λ i. (done 0, state (saved-elements (old .elements) e i) (saved-control i)))
+      ∙ (λ i. outcome (Done 0) (state (saved-elements (old .elements) e i) (saved-control i)))
 
 -- ---- a file that loads
 
@@ -236,7 +229,9 @@ module _ (file : List ℕ) (e : accepted file ≡ true) where
 
   pub control-ranged : inRange (controlIn file) ≡ true
   unfolding controlIn inRange contentsInRange
-  control-ranged = and-both _ _ (and-both _ _ (and-both _ _ (ranged 1024 (omega arith)) (ranged 1026 (omega arith))) (ranged 1027 (omega arith))) (ranged 1028 (omega arith))
+  control-ranged =
+      let lengths = and-both _ _ (ranged 1024 (omega arith)) (ranged 1026 (omega arith)) in
+      and-both _ _ (and-both _ _ lengths (ranged 1027 (omega arith))) (ranged 1028 (omega arith))
 
 module _ (file old : List ℕ) (count : length old ≡ 1024) (bytes : Bytes file) (e : accepted file ≡ true) where
   now : State
@@ -274,7 +269,8 @@ module _ (file old : List ℕ) (count : length old ≡ 1024) (bytes : Bytes file
   now-records (suc n) h =
       let m : n * 16 + 16 ≡ suc n * 16 = omega arith in
       let r : recordBytes n (contentsOf now n) ≡ recordAt file n =
-      ap (recordBytes n) (now-contents n (omega arith)) ∙ record-back (recordAt file n) n (part-length n (omega arith)) (part-bytes n) (part file e n (omega arith)) in
+      ap (recordBytes n) (now-contents n (omega arith))
+      ∙ record-back (recordAt file n) n (part-length n (omega arith)) (part-bytes n) (part file e n (omega arith)) in
       (λ i. now-records n (omega arith) i ++ r i) ∙ sym (take-add (n * 16) 16 file) ∙ ap (λ (k : ℕ). take k file) m
 
   now-file : fileOf now ≡ file
@@ -291,71 +287,70 @@ module _ (file old : List ℕ) (count : length old ≡ 1024) (bytes : Bytes file
   now-held =
       record {
         count = elements-length 1024 file old ∙ count;
-        elements-fit = λ i. ⊎-elim (λ (h : i < 1024). within i h) (λ (h : 1024 ≤ i). beyond i h) (below-or-not i 1024);
+        elements-fit = λ i. ⊎-elim
+            (λ (h : i < 1024). rw (element-at 1024 file old i (omega arith) h) (fits i (omega arith)))
+            (λ (h : 1024 ≤ i). rw (beyond i h) (omega arith))
+            (below-or-not i 1024);
         mask-fits = fits 1025 (omega arith);
         ranged = control-ranged file e;
       }
     where
-      within : (i : ℕ) → i < 1024 → getD (elementsIn 1024 file old) i 0 < 2 ^ 64
-      within i h = subst (λ (x : ℕ). x < 2 ^ 64) (sym (element-at 1024 file old i (omega arith) h)) (fits i (omega arith))
+      beyond : (i : ℕ) → 1024 ≤ i → getD (elementsIn 1024 file old) i 0 ≡ 0
+      beyond i h = List·getD-eq-default (elementsIn 1024 file old) 0 (omega (arith, elements-length 1024 file old))
 
-      beyond : (i : ℕ) → 1024 ≤ i → getD (elementsIn 1024 file old) i 0 < 2 ^ 64
-      beyond i h = subst (λ (x : ℕ). x < 2 ^ 64) (sym (List·getD-eq-default (elementsIn 1024 file old) 0 (omega (arith, elements-length 1024 file old)))) (omega arith)
-
--- a done load was of an accepted file
-pub done-accepted : (file : List ℕ) (old s : State) → loading file old ≡ (done 0, s) → (accepted file ≡ true) × (s ≡ state (elementsIn 1024 file (old .elements)) (controlIn file))
+-- a load is done exactly of an accepted file
+judged : (file : List ℕ) (old : State) (o : Outcome State) → o ≡ loading file old → isDone (o .answer) ≡ accepted file
 unfolding loading
-done-accepted file old s e = either (accepted file) refl e
+judged file old o e = ap (λ (p : Outcome State). isDone (p .answer)) e ∙ either (accepted file) _ _
   where
-    either : (b : Bool) → accepted file ≡ b → _≡_ {A = Answer × State} (pick b (done 0, state (elementsIn 1024 file (old .elements)) (controlIn file)) (badFile (leading 1029 file), old)) (done 0, s)
-        → (accepted file ≡ true) × (s ≡ state (elementsIn 1024 file (old .elements)) (controlIn file))
-    either true a q = (a, sym (ap (λ (p : Answer × State). p .1) q))
-    either false a q =
-        let z : _≡_ {A = ℕ} 10 0 = ap (λ (p : Answer × State). p .0 .number) q in
-        absurd (omega arith)
+    either : (b : Bool) (s : State) (k : ℕ) → isDone (pick b (outcome (Done 0) s) (refusedState (BadFile k) old) .answer) ≡ b
+    either true s k = refl
+    either false s k = refl
 
--- a file that loads gives a control record in range
-pub loads-ranged : (file : List ℕ) (old s : State) → loading file old ≡ (done 0, s) → inRange (s .control) ≡ true
-loads-ranged file old s e =
-    let d = done-accepted file old s e in
-    ap (λ (t : State). inRange (t .control)) (d .1) ∙ control-ranged file (d .0)
+pub done-accepted : (file : List ℕ) (old : State) (o : Outcome State) → o ≡ loading file old → isDone (o .answer) ≡ true
+    → (accepted file ≡ true) × (o .left ≡ state (elementsIn 1024 file (old .elements)) (controlIn file))
+unfolding loading
+done-accepted file old o e d =
+    let a = sym (judged file old o e) ∙ d in (a, ap (λ (p : Outcome State). p .left) (e ∙ pick-true (accepted file) _ _ a))
 
 -- a file that is refused is not accepted, and its first bad record is named
-pub refused-at : (file : List ℕ) (old s : State) (n : ℕ) → loading file old ≡ (badFile n, s) → (accepted file ≡ false) × (n ≡ leading 1029 file)
+pub refused-at : (file : List ℕ) (old : State) (o : Outcome State) → o ≡ loading file old → isDone (o .answer) ≡ false
+    → (accepted file ≡ false) × (o ≡ refusedState (BadFile (leading 1029 file)) old)
 unfolding loading
-refused-at file old s n e = either (accepted file) refl e
-  where
-    either : (b : Bool) → accepted file ≡ b → _≡_ {A = Answer × State} (pick b (done 0, state (elementsIn 1024 file (old .elements)) (controlIn file)) (badFile (leading 1029 file), old)) (badFile n, s)
-        → (accepted file ≡ false) × (n ≡ leading 1029 file)
-    either true a q =
-        let z : _≡_ {A = ℕ} 0 10 = ap (λ (p : Answer × State). p .0 .number) q in
-        absurd (omega arith)
-    either false a q = (a, sym (ap (λ (p : Answer × State). p .0 .beside) q))
+refused-at file old o e d = let a = sym (judged file old o e) ∙ d in (a, e ∙ pick-false (accepted file) _ _ a)
+
+-- a file that loads gives a control record in range
+pub loads-ranged : (file : List ℕ) (old s : State) → loading file old ≡ outcome (Done 0) s → inRange (s .control) ≡ true
+loads-ranged file old s e =
+    let d = done-accepted file old (outcome (Done 0) s) (sym e) refl in
+    ap (λ (t : State). inRange (t .control)) (d .1) ∙ control-ranged file (d .0)
 
 -- a file that loads gives a state that the machine can hold
-pub loads-held : (file : List ℕ) (old s : State) → Bytes file → length (old .elements) ≡ 1024 → loading file old ≡ (done 0, s) → Held s
+pub loads-held : (file : List ℕ) (old s : State) → Bytes file → length (old .elements) ≡ 1024 → loading file old ≡ outcome (Done 0) s → Held s
 unfolding now
 loads-held file old s bytes count e =
-    let d = done-accepted file old s e in
+    let d = done-accepted file old (outcome (Done 0) s) (sym e) refl in
     subst Held (sym (d .1)) (now-held file (old .elements) count bytes (d .0))
 
 -- a file that loads is the one its state would save
-pub loads-saves : (file : List ℕ) (old s : State) → Bytes file → length (old .elements) ≡ 1024 → loading file old ≡ (done 0, s) → fileOf s ≡ file
+pub loads-saves : (file : List ℕ) (old s : State) → Bytes file → length (old .elements) ≡ 1024 → loading file old ≡ outcome (Done 0) s → fileOf s ≡ file
 unfolding now
 loads-saves file old s bytes count e =
-    let d = done-accepted file old s e in
+    let d = done-accepted file old (outcome (Done 0) s) (sym e) refl in
     ap fileOf (d .1) ∙ now-file file (old .elements) count bytes (d .0)
 
 -- so saving a state that a file gave, into bytes with room for it, writes that file again
-pub saves-again : (file : List ℕ) (old s : State) (room : List ℕ) → Bytes file → length (old .elements) ≡ 1024 → loading file old ≡ (done 0, s) → 16464 ≤ length room
-    → saving s room ≡ (done 0, file ++ drop 16464 room)
+pub saves-again : (file : List ℕ) (old s : State) (room : List ℕ) → Bytes file → length (old .elements) ≡ 1024 → loading file old ≡ outcome (Done 0) s
+    → 16464 ≤ length room
+    → saving s room ≡ outcome (Done 0) (file ++ drop 16464 room)
 saves-again file old s room bytes count e h =
     let held = loads-held file old s bytes count e in
-    saves-done s room (held .ranged) h ∙ ap (λ (l : List ℕ). (done 0, l ++ drop 16464 room)) (loads-saves file old s bytes count e)
+    saves-done s room (held .ranged) h ∙ ap (λ (l : List ℕ). outcome (Done 0) (l ++ drop 16464 room)) (loads-saves file old s bytes count e)
 
 -- and loading the bytes that a save wrote gives the saved state
-pub loads-again : (s old : State) (room : List ℕ) → Held s → length (old .elements) ≡ 1024 → 16464 ≤ length room → loading (take 16464 (saving s room .1)) old ≡ (done 0, s)
+pub loads-again : (s old : State) (room : List ℕ) → Held s → length (old .elements) ≡ 1024 → 16464 ≤ length room
+    → loading (take 16464 (saving s room .left)) old ≡ outcome (Done 0) s
 loads-again s old room held count h =
-    let w : take 16464 (saving s room .1) ≡ fileOf s =
-    ap (λ (p : Answer × List ℕ). take 16464 (p .1)) (saves-done s room (held .ranged) h) ∙ take-at (fileOf s) (drop 16464 room) 16464 (file-length s) in
+    let w : take 16464 (saving s room .left) ≡ fileOf s =
+    ap (λ (p : Outcome (List ℕ)). take 16464 (p .left)) (saves-done s room (held .ranged) h) ∙ take-at (fileOf s) (drop 16464 room) 16464 (file-length s) in
     ap (λ (l : List ℕ). loading l old) w ∙ saved-loads s held old count

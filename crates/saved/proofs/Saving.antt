@@ -6,14 +6,12 @@ use Prim.Native.Nat.{ℕ, zero, suc, _+_, _*_, _-_, _/_, _≤_, _<_}
 use native.Mathlib.Numerals.{add-one}
 use native.Mathlib.Omega.{arith}
 use lib.ListN.{length, drop, length-append}
-use lib.Dec.{leb}
 use borrow.Author.Tests.{not-true, not-false, le-leb, lt-leb}
 use borrow.Rule.Slice.PartMut.{putMid}
 use Rattle.numbers.specs.Over.{over}
-use Rattle.numbers.proofs.Tests.{pick-true, pick-false}
 use Rattle.numbers.proofs.Over.{over-over, part-over, length-over}
-use Rattle.numbers.specs.Choice.{pick}
-use Rattle.state.specs.Answer.{done, badFile, outOfRange}
+use Rattle.state.specs.declared.answer.Answer.the-variants.{Done, BadFile, OutOfRange}
+use Rattle.state.specs.Outcome.{outcome}
 use Rattle.state.specs.State.{State, inRange}
 use Rattle.saved.specs.File.{contentsOf, recordBytes, records, fileOf}
 use Rattle.saved.specs.Save.{saving}
@@ -58,39 +56,30 @@ kept file₀ file k s h e =
 
 pub ends : (file₀ file : List ℕ) (k : ℕ) (s : State) → k ≤ 1029 → 1029 ≤ k → file ≡ over file₀ 0 (records k s) → file ≡ over file₀ 0 (fileOf s)
 unfolding fileOf
-ends file₀ file k s h h′ e =
-    let n : k ≡ 1029 = omega arith in
-    e ∙ ap (λ (m : ℕ). over file₀ 0 (records m s)) n
+ends file₀ file k s h h′ e = let n : k ≡ 1029 = omega arith in rw n at e
 
 pub file-length : (s : State) → length (fileOf s) ≡ 16464
 unfolding fileOf
 file-length s = records-length 1029 s
 
 -- a state in range is saved wherever there is room
-pub saves-done : (s : State) (bytes : List ℕ) → inRange (s .control) ≡ true → 16464 ≤ length bytes → saving s bytes ≡ (done 0, fileOf s ++ drop 16464 bytes)
+pub saves-done : (s : State) (bytes : List ℕ) → inRange (s .control) ≡ true → 16464 ≤ length bytes
+    → saving s bytes ≡ outcome (Done 0) (fileOf s ++ drop 16464 bytes)
 unfolding saving
-saves-done s bytes e h = pick-true (inRange (s .control)) _ _ e ∙ pick-true (leb 16464 (length bytes)) _ _ (le-leb 16464 (length bytes) h)
+saves-done s bytes e h = let l = le-leb 16464 (length bytes) h in rw (e, l)
 
 -- The answers. `fit` is what the range test said.
 module _ (s : State) (bytes : List ℕ) (fit : Bool) (e : fit ≡ inRange (s .control)) where
-  pub refused : not fit ≡ true → (outOfRange, bytes) ≡ saving s bytes
+  pub refused : not fit ≡ true → outcome OutOfRange bytes ≡ saving s bytes
   unfolding saving
-  refused t =
-      let r : inRange (s .control) ≡ false = sym e ∙ not-true fit t in
-      sym (pick-false (inRange (s .control)) _ (outOfRange, bytes) r)
+  refused t = let r = sym e ∙ not-true fit t in rw r
 
-  in-range : not fit ≡ false → saving s bytes ≡ pick (leb 16464 (length bytes)) (done 0, fileOf s ++ drop 16464 bytes) (badFile (length bytes / 16), bytes)
+  pub no-room : not fit ≡ false → length bytes < 16464 → outcome (BadFile (length bytes / 16)) bytes ≡ saving s bytes
   unfolding saving
-  in-range t =
-      let r : inRange (s .control) ≡ true = sym e ∙ not-false fit t in
-      pick-true (inRange (s .control)) _ _ r
+  no-room t h = let r = sym e ∙ not-false fit t in let l = lt-leb 16464 (length bytes) h in rw (r, l)
 
-  pub no-room : not fit ≡ false → length bytes < 16464 → (badFile (length bytes / 16), bytes) ≡ saving s bytes
-  no-room t h =
-      sym (in-range t ∙ pick-false (leb 16464 (length bytes)) _ _ (lt-leb 16464 (length bytes) h))
-
-  pub written : (after : List ℕ) → not fit ≡ false → 16464 ≤ length bytes → after ≡ over bytes 0 (fileOf s) → (done 0, after) ≡ saving s bytes
+  pub written : (after : List ℕ) → not fit ≡ false → 16464 ≤ length bytes → after ≡ over bytes 0 (fileOf s) → outcome (Done 0) after ≡ saving s bytes
   written after t h w =
       let n : 0 + length (fileOf s) ≡ 16464 = omega (arith, file-length s) in
-      ap (λ (l : List ℕ). (done 0, l)) (w ∙ ap (λ (m : ℕ). fileOf s ++ drop m bytes) n)
+      ap (outcome (Done 0)) (w ∙ ap (λ (m : ℕ). fileOf s ++ drop m bytes) n)
       ∙ sym (saves-done s bytes (sym e ∙ not-false fit t) h)

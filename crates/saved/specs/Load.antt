@@ -7,11 +7,10 @@ use lib.Dec.{ltb, leb, eqb}
 use lib.ListN.{length, take, drop, set}
 use Rattle.numbers.specs.Bytes.{numberOf, allZero}
 use Rattle.numbers.specs.Choice.{pick}
-use Rattle.state.specs.Answer.{Answer, done, badFile}
+use Rattle.state.specs.declared.answer.Answer.the-variants.{Done, BadFile}
+use Rattle.state.specs.Outcome.{Outcome, outcome, refusedState}
 use Rattle.state.specs.State.{State, state, lengthInRange, vaerInRange, vpsrInRange}
 use Rattle.state.specs.declared.Control.{Control}
-use Rattle.saved.specs.declared.Loaded.{Loaded}
-use Rattle.saved.specs.declared.Loaded.the-variants.{Done, BadRecord}
 
 -- the 16 bytes of record k
 abbrev pub recordAt : List ℕ → ℕ → List ℕ
@@ -77,15 +76,10 @@ firstContents (suc n) file = firstContents n file ++ (contentsIn (recordAt file 
 unfoldable pub stateIn : List ℕ → State
 stateIn file = state (firstContents 1024 file) (controlIn file)
 
--- the number of each answer, and what stands beside it
-abbrev pub answerOf : Loaded → Answer
-answerOf Done = done 0
-answerOf (BadRecord first) = badFile first
-
--- The answer, and the state after it. A refusal names the first bad record and leaves the state as it
--- was: 1,029 where all are good and more bytes follow.
-unfoldable pub loading : List ℕ → State → Answer × State
+-- The answer, and the state after it. A refusal names the first bad record: 1,029 where all are good
+-- and more bytes follow.
+unfoldable pub loading : List ℕ → State → Outcome State
 loading file old =
     pick (accepted file)
-    (done 0, state (elementsIn 1024 file (old .elements)) (controlIn file))
-    (badFile (leading 1029 file), old)
+    (outcome (Done 0) (state (elementsIn 1024 file (old .elements)) (controlIn file)))
+    (refusedState (BadFile (leading 1029 file)) old)

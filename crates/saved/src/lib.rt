@@ -2,35 +2,18 @@
 mod record;
 
 use state::Control;
+use state::answer;
+use state::answer::Answer;
+use state::answer::Ended;
 ghost use mathlib.Core.Path.{_≡_};
 ghost use Prim.Native.Nat.{_+_, _*_, _<_, _≤_};
 ghost use lib.ListN.{length};
+ghost use Rattle.state.specs.Outcome.{outcome};
 ghost use Rattle.state.specs.State.{state as stateOf};
 ghost use Rattle.numbers.specs.Over.{over};
 ghost use Rattle.saved.specs.File.{contentsOf, fileOf};
-ghost use Rattle.saved.specs.Save.{saving, answerOf as savedAnswer};
-ghost use Rattle.saved.specs.Load.{recordAt, contentsIn, leading as leadingOf, elementsIn, controlIn, loading, answerOf as loadedAnswer};
-
-// What saving answers.
-pub enum Saved {
-    Done,
-    StateOutOfRange,
-    // The first record that has no room.
-    NoRoom(u64),
-}
-
-// What loading answers.
-pub enum Loaded {
-    Done,
-    // The first record that is bad.
-    BadRecord(u64),
-}
-
-// The answer of a load, and the control record after it.
-pub struct AfterLoad {
-    pub answer: Loaded,
-    pub control: Control,
-}
+ghost use Rattle.saved.specs.Save.{saving};
+ghost use Rattle.saved.specs.Load.{recordAt, contentsIn, leading as leadingOf, elementsIn, controlIn, loading};
 
 // The contents of record k of a state.
 fn contents_of(elements: &[u64; 1024], control: Control, k: usize) -> u64
@@ -74,17 +57,17 @@ fn put_records(elements: &[u64; 1024], control: Control, file: &mut [u8])
 }
 
 // Saves a state into lent bytes.
-pub fn save(elements: &[u64; 1024], control: Control, file: &mut [u8]) -> Saved
-    ensures { λ r. ⌜ (savedAnswer r, now (file .exit)) ≡ saving (stateOf (now (elements .entry)) control) (now (file .entry)) ⌝ }
+pub fn save(elements: &[u64; 1024], control: Control, file: &mut [u8]) -> Answer
+    ensures { λ r. ⌜ outcome r (now (file .exit)) ≡ saving (stateOf (now (elements .entry)) control) (now (file .entry)) ⌝ }
 {
     if !state::in_range(control) {
-        return Saved::StateOutOfRange;
+        return Answer::OutOfRange;
     }
     if file.len() < 16464 {
-        return Saved::NoRoom(file.len() as u64 / 16);
+        return Answer::BadFile(file.len() as u64 / 16);
     }
     put_records(elements, control, file);
-    Saved::Done
+    Answer::Done(0)
 }
 
 // How many records come before the first that is not good.
@@ -143,19 +126,16 @@ fn control_in(file: &[u8]) -> Control
 }
 
 // Loads a state from the bytes of a file.
-pub fn load(elements: &mut [u64; 1024], control: Control, file: &[u8]) -> AfterLoad
-    ensures { λ r. ⌜ (loadedAnswer (r .answer), stateOf (now (elements .exit)) (r .control)) ≡ loading (now (file .entry)) (stateOf (now (elements .entry)) control) ⌝ }
+pub fn load(elements: &mut [u64; 1024], control: Control, file: &[u8]) -> Ended
+    ensures { λ r. ⌜ outcome (r .answer) (stateOf (now (elements .exit)) (r .control)) ≡ loading (now (file .entry)) (stateOf (now (elements .entry)) control) ⌝ }
 {
     let k = leading(file);
     if (k == 1029) & (file.len() <= 16464) {
         fill(&mut *elements, file);
-        return AfterLoad {
-            answer: Loaded::Done,
+        return Ended {
+            answer: Answer::Done(0),
             control: control_in(file),
         };
     }
-    AfterLoad {
-        answer: Loaded::BadRecord(k as u64),
-        control,
-    }
+    answer::refused(Answer::BadFile(k as u64), control)
 }

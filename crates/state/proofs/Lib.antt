@@ -1,2 +1,3 @@
 -- Laws of the state.
 pub mod Ranges
+pub mod Refusing

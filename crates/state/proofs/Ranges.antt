@@ -45,7 +45,8 @@ module _ (a b : ℕ) (ra : vaerInRange a ≡ true) (rb : vaerInRange b ≡ true)
   apart : (v : ℕ) → vaerInRange v ≡ true → parts v
   apart v r =
       let u = and-left (ltb v (2 ^ 32) && eqb (v / 2 ^ 4 % 2) 0) (eqb (v / 2 ^ 6 % 2 ^ 10) 0) r in
-      (and-left (ltb v (2 ^ 32)) (eqb (v / 2 ^ 4 % 2) 0) u, and-right (ltb v (2 ^ 32)) (eqb (v / 2 ^ 4 % 2) 0) u, and-right (ltb v (2 ^ 32) && eqb (v / 2 ^ 4 % 2) 0) (eqb (v / 2 ^ 6 % 2 ^ 10) 0) r)
+      let w = and-right (ltb v (2 ^ 32) && eqb (v / 2 ^ 4 % 2) 0) (eqb (v / 2 ^ 6 % 2 ^ 10) 0) r in
+      (and-left (ltb v (2 ^ 32)) (eqb (v / 2 ^ 4 % 2) 0) u, and-right (ltb v (2 ^ 32)) (eqb (v / 2 ^ 4 % 2) 0) u, w)
 
   -- bits that neither has
   neither : (k n : ℕ) → eqb (a / 2 ^ k % 2 ^ n) 0 ≡ true → eqb (b / 2 ^ k % 2 ^ n) 0 ≡ true → eqb (bitOr a b / 2 ^ k % 2 ^ n) 0 ≡ true

@@ -1,55 +1,49 @@
--- Document 01, "Numbers given back": a call's number and what stands beside it.
+-- Document 01, "Numbers given back": the number of each answer, and what stands beside it.
+use mathlib.Core.Bool.{Bool}
 use Prim.Native.Nat.{ℕ}
+use lib.Dec.{eqb}
+use Rattle.state.specs.declared.answer.Answer.{Answer}
+use Rattle.state.specs.declared.answer.Answer.the-variants.{Done, ReservedOpcode, ReservedControlWord, Disabled, WindowRefused, Misaligned}
+use Rattle.state.specs.declared.answer.Answer.the-variants.{OutsideWindow, MemoryOpcode, QueueRefused, OrderRefused, BadFile, ValueRefused}
+use Rattle.state.specs.declared.answer.Answer.the-variants.{OutOfRange, NoSuchField}
 
-pub record Answer : Type 0 where
-  pub number : ℕ
-  pub beside : ℕ
+abbrev pub numberOf : Answer → ℕ
+numberOf (Done value) = 0
+numberOf (ReservedOpcode position) = 1
+numberOf (ReservedControlWord position) = 2
+numberOf Disabled = 3
+numberOf WindowRefused = 4
+numberOf (Misaligned element) = 5
+numberOf (OutsideWindow element) = 6
+numberOf (MemoryOpcode position) = 7
+numberOf QueueRefused = 8
+numberOf (OrderRefused position) = 9
+numberOf (BadFile recordNumber) = 10
+numberOf ValueRefused = 11
+numberOf OutOfRange = 12
+numberOf NoSuchField = 13
 
-abbrev pub answer : ℕ → ℕ → Answer
-answer n b = record { number = n; beside = b }
+-- done: what was read, 0 where nothing is
+abbrev pub besideOf : Answer → ℕ
+besideOf (Done value) = value
+besideOf (ReservedOpcode position) = position
+besideOf (ReservedControlWord position) = position
+besideOf Disabled = 0
+besideOf WindowRefused = 0
+besideOf (Misaligned element) = element
+besideOf (OutsideWindow element) = element
+besideOf (MemoryOpcode position) = position
+besideOf QueueRefused = 0
+besideOf (OrderRefused position) = position
+besideOf (BadFile recordNumber) = recordNumber
+besideOf ValueRefused = 0
+besideOf OutOfRange = 0
+besideOf NoSuchField = 0
 
--- done, with what was read (0 where nothing is)
-abbrev pub done : ℕ → Answer
-done value = answer 0 value
+-- as C gets it
+abbrev pub numbers : Answer → ℕ × ℕ
+numbers a = (numberOf a, besideOf a)
 
-abbrev pub reservedOpcode : ℕ → Answer
-reservedOpcode position = answer 1 position
-
-abbrev pub reservedControlWord : ℕ → Answer
-reservedControlWord position = answer 2 position
-
-abbrev pub disabled : Answer
-disabled = answer 3 0
-
-abbrev pub windowRefused : Answer
-windowRefused = answer 4 0
-
-abbrev pub misaligned : ℕ → Answer
-misaligned element = answer 5 element
-
-abbrev pub outsideWindow : ℕ → Answer
-outsideWindow element = answer 6 element
-
--- a memory opcode in a queue
-abbrev pub memoryOpcode : ℕ → Answer
-memoryOpcode position = answer 7 position
-
--- more than 16 in a queue, or its parts of unequal length
-abbrev pub queueRefused : Answer
-queueRefused = answer 8 0
-
--- the order is not permitted
-abbrev pub orderRefused : ℕ → Answer
-orderRefused place = answer 9 place
-
-abbrev pub badFile : ℕ → Answer
-badFile recordNumber = answer 10 recordNumber
-
-abbrev pub valueRefused : Answer
-valueRefused = answer 11 0
-
-abbrev pub outOfRange : Answer
-outOfRange = answer 12 0
-
-abbrev pub noSuchField : Answer
-noSuchField = answer 13 0
+-- nothing is refused
+abbrev pub isDone : Answer → Bool
+isDone a = eqb (numberOf a) 0

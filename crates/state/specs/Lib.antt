@@ -1,4 +1,5 @@
--- The state and the numbers that calls give back.
+-- The state, the answers of calls and what a call leaves.
 pub mod Answer
 pub mod Elements
+pub mod Outcome
 pub mod State

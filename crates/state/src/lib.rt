@@ -1,7 +1,9 @@
-// The state: register and element numbers, and the control record with its range test.
+// The state: register and element numbers, and the control record with its range test. And what every call on it gives back.
 ghost use mathlib.Core.Path.{_≡_};
 ghost use Prim.Native.Nat.{_<_};
 ghost use Rattle.state.specs.State.{placeOf, lengthInRange, vaerInRange, vpsrInRange, inRange, enabled as enabledOf};
+
+pub mod answer;
 
 // The number of a vector register, 0 to 15. It is as wide as an index, so that any number a caller names is tested and none is cut.
 pub struct Register(pub usize);

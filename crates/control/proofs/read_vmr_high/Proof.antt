@@ -3,14 +3,13 @@ use borrow.Author.Needs.{needs}
 use Rattle.control.proofs.read_vmr_high.Statement.{statement}
 use Rattle.control.proofs.read_vmr_high.Tie as tie
 
-high-requires : tie.Need-high-requires
-high-requires c κs = search needs
-
-read-enabled-requires : tie.Need-read-enabled-requires
-read-enabled-requires c κs = search needs
-
 returns : tie.Need-returns
 returns c = cc
 
 pub read-vmr-high-spec : {M : Type 1} → statement M
-read-vmr-high-spec = tie.close (tie.spec high-requires read-enabled-requires returns)
+read-vmr-high-spec =
+    tie.close
+    (tie.spec
+    (λ c κs. search needs)
+    (λ c κs. search needs)
+    returns)

@@ -3,14 +3,13 @@ use borrow.Author.Needs.{needs}
 use Rattle.control.proofs.write_vcr.Statement.{statement}
 use Rattle.control.proofs.write_vcr.Tie as tie
 
-length-in-range-requires : tie.Need-length-in-range-requires
-length-in-range-requires c κs = search needs
-
-write-enabled-requires : tie.Need-write-enabled-requires
-write-enabled-requires c κs = search needs
-
 returns : tie.Need-returns
 returns c = cc
 
 pub write-vcr-spec : {M : Type 1} → statement M
-write-vcr-spec = tie.close (tie.spec length-in-range-requires write-enabled-requires returns)
+write-vcr-spec =
+    tie.close
+    (tie.spec
+    (λ c κs. search needs)
+    (λ c κs. search needs)
+    returns)

@@ -3,12 +3,13 @@ use borrow.Author.Needs.{needs}
 use Rattle.element.proofs.converted.Statement.{statement}
 use Rattle.element.proofs.converted.Tie as tie
 
-convert-requires : tie.Need-convert-requires
-convert-requires c κs = search needs
-
 returns : tie.Need-returns
 unfolding resultOf
 returns c = c .convert .ensures
 
 pub converted-spec : {M : Type 1} → statement M
-converted-spec = tie.close (tie.spec convert-requires returns)
+converted-spec =
+    tie.close
+    (tie.spec
+    (λ c κs. search needs)
+    returns)

@@ -3,19 +3,19 @@ use borrow.Author.Needs.{needs}
 use Rattle.element.proofs.product.Statement.{statement}
 use Rattle.element.proofs.product.Tie as tie
 
-divide-requires : tie.Need-divide-requires
-divide-requires c κs = search needs
-
 returns : tie.Need-returns
 unfolding resultOf
 returns c = rw (c .before .if1 .taken) (c .divide .ensures)
-
-multiply-requires : tie.Need-multiply-requires
-multiply-requires c κs = search needs
 
 returns-2 : tie.Need-returns-2
 unfolding resultOf
 returns-2 c = rw (c .before .if1 .left) (c .multiply .ensures)
 
 pub product-spec : {M : Type 1} → statement M
-product-spec = tie.close (tie.spec divide-requires returns multiply-requires returns-2)
+product-spec =
+    tie.close
+    (tie.spec
+    (λ c κs. search needs)
+    returns
+    (λ c κs. search needs)
+    returns-2)

@@ -1,91 +1,56 @@
-use Rattle.execute.specs.Execute.{executedOf}
-use Rattle.opcodes.proofs.Passed.{read-control-passed}
-use Rattle.state.proofs.Ranges.{vlr-at-most}
-use borrow.Author.Tests.{not-true, not-false}
-use mathlib.Core.Path.{sym, _∙_}
+-- `execute` meets its contract: its tests come in the definition's order. Assumes nothing.
+use Rattle.execute.proofs.Executing.{out-of-range, refuses, executes, may-run}
+use Rattle.state.specs.State.{state}
+use mathlib.Core.List.{[]}
 use borrow.Author.Needs.{needs}
 use Rattle.execute.proofs.execute.Statement.{statement}
 use Rattle.execute.proofs.execute.Tie as tie
 
-in-range-requires : tie.Need-in-range-requires
-in-range-requires c κs = search needs
-
 returns : tie.Need-returns
-unfolding executedOf
-returns c = rw (← c .before .in-range .ensures, not-true (c .before .in-range .result) (c .if1 .taken))
+returns c =
+    let e = c .before in
+    let a = e .before .before .before .args in
+    out-of-range (state (a .elements .now) (a .control)) _ _ _ _ _ _ _ _ (e .before .in-range .ensures) (e .if1 .taken) (c .refused .result) (c .refused .ensures)
 
-look-up-requires : tie.Need-look-up-requires
-look-up-requires c κs = search needs
-
-enum-known-work : tie.Need-enum-known-work
-enum-known-work c = search needs
-
-enum-told : tie.Need-enum-told
-enum-told c = search needs
+carry-out-requires : tie.Need-carry-out-requires
+carry-out-requires c κs =
+    let e : tie.Else1 = search needs in
+    let s : tie.Start = search needs in
+    let d : tie.After-decode = search needs in
+    may-run (state (s .args .elements .now) (s .args .control)) (s .args .opcode) (s .args .cntrl) 0 0 0 [] 0 _ (e .before .in-range .ensures) (e .if1 .left) _ (d .before .enabled .ensures)
+    _ (d .decode .ensures) _ (c .before .before .before .decoded2 .given .1)
 
 returns-2 : tie.Need-returns-2
-unfolding executedOf
 returns-2 c =
-    let e = sym (c .before .before .look-up .ensures .result) ∙ c .enum-told .given .1 in
-    rw (← c .before .before .before .before .in-range .ensures, not-false (c .before .before .before .before .in-range .result) (c .before .before .before .if1 .left), e)
-
-enabled-requires : tie.Need-enabled-requires
-enabled-requires c κs = search needs
+    let e : tie.Else1 = search needs in
+    let s : tie.Start = search needs in
+    let d : tie.After-decode = search needs in
+    refuses (state (s .args .elements .now) (s .args .control)) _ _ _ _ _ _ _ _ (e .before .in-range .ensures) (e .if1 .left) _ (d .before .enabled .ensures)
+    _ (d .decode .ensures) _ (c .before .before .decoded .given .1) (c .refused2 .result) (c .refused2 .ensures)
 
 returns-3 : tie.Need-returns-3
-unfolding executedOf
 returns-3 c =
-    let e = sym (c .before .before .before .before .before .look-up .ensures .result) ∙ c .before .before .before .work .given .1 in
-    rw (← c .before .before .before .before .before .before .before .in-range .ensures, not-false (c .before .before .before .before .before .before .before .in-range .result) (c .before .before .before .before .before .before .if1 .left), e, ← c .before .enabled .ensures, not-true (c .before .enabled .result) (c .if2 .taken))
-
-read-control-requires : tie.Need-read-control-requires
-read-control-requires c κs = search needs
-
-enum-known-instruction : tie.Need-enum-known-instruction
-enum-known-instruction c = search needs
-
-enum-told-2 : tie.Need-enum-told-2
-enum-told-2 c = search needs
-
-returns-4 : tie.Need-returns-4
-unfolding executedOf
-returns-4 c =
-    let e = sym (c .before .before .before .before .before .before .before .before .look-up .ensures .result) ∙ c .before .before .before .before .before .before .work .given .1 in
-    let f = sym (c .before .before .read-control .ensures .result) ∙ c .enum-told2 .given .1 in
-    rw (← c .before .before .before .before .before .before .before .before .before .before .in-range .ensures, not-false (c .before .before .before .before .before .before .before .before .before .before .in-range .result) (c .before .before .before .before .before .before .before .before .before .if1 .left), e, ← c .before .before .before .before .enabled .ensures, not-false (c .before .before .before .before .enabled .result) (c .before .before .before .if2 .left), f)
-
-run-accepted-requires : tie.Need-run-accepted-requires
-run-accepted-requires c κs =
-    let p = read-control-passed _ _ _ _ _ (c .before .before .before .before .before .read-control .ensures) (c .before .before .before .instruction .given .1) .passed in
-    let r = sym (c .before .before .before .before .before .before .before .before .before .before .before .before .before .in-range .ensures) ∙ not-false (c .before .before .before .before .before .before .before .before .before .before .before .before .before .in-range .result) (c .before .before .before .before .before .before .before .before .before .before .before .before .if1 .left) in
-    (p .va-below, p .vb-below, p .vc-below, vlr-at-most (c .before .before .before .before .before .before .before .before .before .before .before .before .before .before .before .args .control) r)
-
-same-length : tie.Need-same-length
-same-length c = search needs
-
-returns-5 : tie.Need-returns-5
-unfolding executedOf
-returns-5 c =
-    let e = sym (c .before .before .before .before .before .before .before .before .before .before .before .before .before .before .look-up .ensures .result) ∙ c .before .before .before .before .before .before .before .before .before .before .before .before .work .given .1 in
-    let f = sym (c .before .before .before .before .before .before .before .before .read-control .ensures .result) ∙ c .before .before .before .before .before .before .instruction .given .1 in
-    rw (← c .before .before .before .before .before .before .before .before .before .before .before .before .before .before .before .before .in-range .ensures, not-false (c .before .before .before .before .before .before .before .before .before .before .before .before .before .before .before .before .in-range .result) (c .before .before .before .before .before .before .before .before .before .before .before .before .before .before .before .if1 .left), e, ← c .before .before .before .before .before .before .before .before .before .before .enabled .ensures, not-false (c .before .before .before .before .before .before .before .before .before .before .enabled .result) (c .before .before .before .before .before .before .before .before .before .if2 .left), f) (c .before .before .run-accepted .ensures)
+    let e : tie.Else1 = search needs in
+    let s : tie.Start = search needs in
+    let d : tie.After-decode = search needs in
+    let k = c .before .before in
+    let t = k .before .before .before .before in
+    executes (state (s .args .elements .now) (s .args .control)) _ _ _ _ _ _ _ _ (e .before .in-range .ensures) (e .if1 .left) _ (d .before .enabled .ensures)
+    _ (d .decode .ensures) _ (t .decoded2 .given .1) _ (k .carry-out .ensures)
 
 pub execute-spec : {M : Type 1} → statement M
 execute-spec =
     tie.close
     (tie.spec
-    in-range-requires
+    (λ c κs. search needs)
+    (λ c κs. search needs)
     returns
-    look-up-requires
-    enum-known-work
-    enum-told
+    (λ c κs. search needs)
+    (λ c κs. search needs)
+    (λ c. search needs)
+    (λ c κs. search needs)
+    (λ c. search needs)
+    carry-out-requires
     returns-2
-    enabled-requires
-    returns-3
-    read-control-requires
-    enum-known-instruction
-    enum-told-2
-    returns-4
-    run-accepted-requires
-    same-length
-    returns-5)
+    (λ c. search needs)
+    returns-3)

@@ -1,27 +1,29 @@
-use Rattle.machine.specs.Instruction.{wholeOf, instructionOf}
-use Rattle.machine.specs.Run.{run, finished}
+-- `register` meets its contract: the instruction, whole, is the run. Assumes nothing.
 use Rattle.machine.specs.declared.Progress.{Progress}
+use Rattle.machine.specs.Run.{run, finished}
+use Rattle.machine.specs.Instruction.{wholeOf, instructionDone}
 use Rattle.state.specs.State.{state}
 use mathlib.Core.Path.{ap, _∙_}
 use borrow.Author.Needs.{needs}
 use Rattle.execute.proofs.register.Statement.{statement}
 use Rattle.execute.proofs.register.Tie as tie
 
-begin-requires : tie.Need-begin-requires
-begin-requires c κs = search needs
-
 whole-requires : tie.Need-whole-requires
-whole-requires c κs = let st = c .before .before in (st .pre .0, st .pre .1, st .pre .2, rw (c .begin .ensures) (st .pre .3))
-
-end-requires : tie.Need-end-requires
-end-requires c κs = search needs
+whole-requires c κs = let s = c .before .before in (s .pre .0, s .pre .1, rw (c .begin .ensures) (s .pre .2))
 
 returns : tie.Need-returns
-unfolding instructionOf
+unfolding instructionDone
 returns c =
-    let a = c .before .before .before .before .args in
+    let b = c .before .before in
+    let a = b .before .before .args in
     ap (state _) (c .end .ensures)
-    ∙ ap finished (c .before .whole .ensures ∙ ap (λ (p : Progress). wholeOf (a .instruction) (a .scalar) (run (a .elements .now) p)) (c .before .before .begin .ensures))
+    ∙ ap finished (c .before .whole .ensures ∙ ap (λ (p : Progress). wholeOf (a .instruction) (a .scalar) (run (a .elements .now) p)) (b .begin .ensures))
 
 pub register-spec : {M : Type 1} → statement M
-register-spec = tie.close (tie.spec begin-requires whole-requires end-requires returns)
+register-spec =
+    tie.close
+    (tie.spec
+    (λ c κs. search needs)
+    whole-requires
+    (λ c κs. search needs)
+    returns)

@@ -4,11 +4,12 @@ use borrow.Author.Needs.{needs}
 use Rattle.floating.proofs.read_longword.Statement.{statement}
 use Rattle.floating.proofs.read_longword.Tie as tie
 
-signed-requires : tie.Need-signed-requires
-signed-requires c κs = search needs
-
 returns : tie.Need-returns
 returns c = shows-longword (c .before .args .word) (c .signed .result) (c .before .fits .word) (c .signed .ensures)
 
 pub read-longword-spec : {M : Type 1} → statement M
-read-longword-spec = tie.close (tie.spec signed-requires returns)
+read-longword-spec =
+    tie.close
+    (tie.spec
+    (λ c κs. search needs)
+    returns)

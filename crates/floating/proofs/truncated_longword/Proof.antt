@@ -1,15 +1,17 @@
 -- `floating::truncated_longword` meets its contract. Assumes nothing.
 use mathlib.Core.Path.{_∙_}
+use Rattle.floating.specs.Format.{F}
 use Rattle.floating.proofs.Converting.{by-none}
 use borrow.Author.Needs.{needs}
 use Rattle.floating.proofs.truncated_longword.Statement.{statement}
 use Rattle.floating.proofs.truncated_longword.Tie as tie
 
-to-longword-requires : tie.Need-to-longword-requires
-to-longword-requires c κs = search needs
-
 returns : tie.Need-returns
-returns c = c .to-longword .ensures ∙ by-none (c .before .args .exc) (c .before .args .word)
+returns c = c .to-longword .ensures ∙ by-none F (c .before .args .exc) (c .before .args .word)
 
 pub truncated-longword-spec : {M : Type 1} → statement M
-truncated-longword-spec = tie.close (tie.spec to-longword-requires returns)
+truncated-longword-spec =
+    tie.close
+    (tie.spec
+    (λ c κs. search needs)
+    returns)

@@ -3,14 +3,13 @@ use borrow.Author.Needs.{needs}
 use Rattle.floating_c.proofs.kuj_f_add.Statement.{statement}
 use Rattle.floating_c.proofs.kuj_f_add.Tie as tie
 
-add-requires : tie.Need-add-requires
-add-requires c κs = search needs
-
-join-requires : tie.Need-join-requires
-join-requires c κs = search needs
-
 returns : tie.Need-returns
 returns c = cc
 
 pub kuj-f-add-spec : {M : Type 1} → statement M
-kuj-f-add-spec = tie.close (tie.spec add-requires join-requires returns)
+kuj-f-add-spec =
+    tie.close
+    (tie.spec
+    (λ c κs. search needs)
+    (λ c κs. search needs)
+    returns)

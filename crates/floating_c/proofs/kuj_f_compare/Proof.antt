@@ -3,14 +3,13 @@ use borrow.Author.Needs.{needs}
 use Rattle.floating_c.proofs.kuj_f_compare.Statement.{statement}
 use Rattle.floating_c.proofs.kuj_f_compare.Tie as tie
 
-compare-requires : tie.Need-compare-requires
-compare-requires c κs = search needs
-
-join-bit-requires : tie.Need-join-bit-requires
-join-bit-requires c κs = search needs
-
 returns : tie.Need-returns
 returns c = cc
 
 pub kuj-f-compare-spec : {M : Type 1} → statement M
-kuj-f-compare-spec = tie.close (tie.spec compare-requires join-bit-requires returns)
+kuj-f-compare-spec =
+    tie.close
+    (tie.spec
+    (λ c κs. search needs)
+    (λ c κs. search needs)
+    returns)

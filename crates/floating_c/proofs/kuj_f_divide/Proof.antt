@@ -3,14 +3,13 @@ use borrow.Author.Needs.{needs}
 use Rattle.floating_c.proofs.kuj_f_divide.Statement.{statement}
 use Rattle.floating_c.proofs.kuj_f_divide.Tie as tie
 
-divide-requires : tie.Need-divide-requires
-divide-requires c κs = search needs
-
-join-requires : tie.Need-join-requires
-join-requires c κs = search needs
-
 returns : tie.Need-returns
 returns c = cc
 
 pub kuj-f-divide-spec : {M : Type 1} → statement M
-kuj-f-divide-spec = tie.close (tie.spec divide-requires join-requires returns)
+kuj-f-divide-spec =
+    tie.close
+    (tie.spec
+    (λ c κs. search needs)
+    (λ c κs. search needs)
+    returns)

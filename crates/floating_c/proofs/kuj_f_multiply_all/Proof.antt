@@ -15,45 +15,13 @@ Inv-loop a b out₀ n i₀ out i = (i ≤ n) × (n ≤ length a) × (n ≤ lengt
 abbrev μ-loop : tie.MeasureT-loop
 μ-loop a b out₀ n i₀ out i = n - i
 
-shorter-of-requires : tie.Need-shorter-of-requires Inv-loop μ-loop
-shorter-of-requires c κs = search needs
-
-shorter-of-requires-2 : tie.Need-shorter-of-requires-2 Inv-loop μ-loop
-shorter-of-requires-2 c κs = search needs
-
 loop-holds : tie.Need-loop-holds Inv-loop μ-loop
 loop-holds c = (omega arith, omega arith, omega arith, omega arith, search needs, starts _ _ _)
 
-mul-multiply : tie.Need-mul-multiply Inv-loop μ-loop
-mul-multiply c = search needs
-
-shared-slice-read-multiply : tie.Need-shared-slice-read-multiply Inv-loop μ-loop
-shared-slice-read-multiply c = search needs
-
-mul-multiply-2 : tie.Need-mul-multiply-2 Inv-loop μ-loop
-mul-multiply-2 c = search needs
-
-shared-slice-read-multiply-2 : tie.Need-shared-slice-read-multiply-2 Inv-loop μ-loop
-shared-slice-read-multiply-2 c = search needs
-
-multiply-requires : tie.Need-multiply-requires Inv-loop μ-loop
-multiply-requires c κs = search needs
-
-mul-out : tie.Need-mul-out Inv-loop μ-loop
-mul-out c = search needs
-
-slice-write-out : tie.Need-slice-write-out Inv-loop μ-loop
-slice-write-out c = search needs
-
-add-i : tie.Need-add-i Inv-loop μ-loop
-add-i c = search needs
-
-loop-less : tie.Need-loop-less Inv-loop μ-loop
-loop-less c = search needs
-
 loop-again : tie.Need-loop-again Inv-loop μ-loop
 loop-again c =
-    let l = c .before .before .before .before .loop in (
+    let read = c .before .before in
+    let l = read .before .before .loop in (
       omega arith,
       omega arith,
       omega arith,
@@ -61,9 +29,6 @@ loop-again c =
       simp length-set (search needs),
       turns _ _ _ (l .out) (l .i) (c .multiply .result) (omega arith) (c .multiply .ensures) (l .inv .5),
     )
-
-same-length : tie.Need-same-length Inv-loop μ-loop
-same-length c = search needs
 
 returns : tie.Need-returns Inv-loop μ-loop
 returns c = search (ends, needs)
@@ -74,18 +39,18 @@ kuj-f-multiply-all-spec =
     (tie.spec
     Inv-loop
     μ-loop
-    shorter-of-requires
-    shorter-of-requires-2
+    (λ c κs. search needs)
+    (λ c κs. search needs)
     loop-holds
-    mul-multiply
-    shared-slice-read-multiply
-    mul-multiply-2
-    shared-slice-read-multiply-2
-    multiply-requires
-    mul-out
-    slice-write-out
-    add-i
-    loop-less
+    (λ c. search needs)
+    (λ c. search needs)
+    (λ c. search needs)
+    (λ c. search needs)
+    (λ c κs. search needs)
+    (λ c. search needs)
+    (λ c. search needs)
+    (λ c. search needs)
+    (λ c. search needs)
     loop-again
-    same-length
+    (λ c. search needs)
     returns)

@@ -8,13 +8,13 @@ use denote.Triple.Spec.{tripleOf}
 use denote.Triple.Table.{entered, cited}
 use Rattle.control.specs.Moves.{vcrWritten as written}
 use Rattle.control.proofs.Kept.{refused-keeps}
-use Rattle.kujawian.proofs.Writes.{ByValue, IsDone, OfWrite, meets}
+use Rattle.kujawian.proofs.Writes.{ByValue, IsDone, Give, meets}
 use Rattle.control.proofs.write_vcr.Symbol as write-def
 use Rattle.control.proofs.write_vcr.Met as write-thm
-use Rattle.control.proofs.is_done.Symbol as test-def
-use Rattle.control.proofs.is_done.Met as test-thm
-use Rattle.kujawian.proofs.answers.of_write.Symbol as answer-def
-use Rattle.kujawian.proofs.answers.of_write.Met as answer-thm
+use Rattle.state.proofs.answer.is_done.Symbol as test-def
+use Rattle.state.proofs.answer.is_done.Met as test-thm
+use Rattle.kujawian.proofs.answers.give.Symbol as answer-def
+use Rattle.kujawian.proofs.answers.give.Met as answer-thm
 use Rattle.kujawian.proofs.kuj_write_vcr.Key.{name as #write}
 use Rattle.kujawian.proofs.kuj_write_vcr as f
 use Rattle.kujawian.proofs.kuj_write_vcr.Statement as stated
@@ -33,6 +33,6 @@ kuj-write-vcr-spec 𝓤 H 𝓜 𝓖 𝓡 =
     (cited 𝓤 H (ByValue width written 𝓤 H (𝓖 .A)) 𝓜 𝓡 code.env write-def.name write-def.routine
     code.calls-control·write-vcr (write-thm.met 𝓤 H 𝓜 𝓖 𝓡))
     (cited 𝓤 H (IsDone 𝓤 H (𝓖 .A) (𝓜 .mem) (𝓡 .run)) 𝓜 𝓡 code.env test-def.name test-def.routine
-    code.calls-control·is-done (test-thm.met 𝓤 H 𝓜 𝓖 𝓡))
-    (cited 𝓤 H (OfWrite 𝓤 H (𝓖 .A) (𝓜 .mem) (𝓡 .run)) 𝓜 𝓡 code.env answer-def.name answer-def.routine
-    code.calls-kujawian·answers·of-write (answer-thm.met 𝓤 H 𝓜 𝓖 𝓡)))
+    code.calls-state·answer·is-done (test-thm.met 𝓤 H 𝓜 𝓖 𝓡))
+    (cited 𝓤 H (Give 𝓤 H (𝓖 .A) (𝓜 .mem) (𝓡 .run)) 𝓜 𝓡 code.env answer-def.name answer-def.routine
+    code.calls-kujawian·answers·give (answer-thm.met 𝓤 H 𝓜 𝓖 𝓡)))

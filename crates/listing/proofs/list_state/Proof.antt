@@ -5,40 +5,29 @@ use borrow.Author.Needs.{needs}
 use Rattle.listing.proofs.list_state.Statement.{statement}
 use Rattle.listing.proofs.list_state.Tie as tie
 
-in-range-requires : tie.Need-in-range-requires
-in-range-requires c κs = search needs
-
 returns : tie.Need-returns
-returns c = out-of-range _ _ _ _ (c .before .in-range .ensures) (c .if1 .taken)
+returns c = search (out-of-range, needs)
 
 returns-2 : tie.Need-returns-2
-returns-2 c = state-no-room _ _ _ (passed _ _ (c .before .before .in-range .ensures) (c .before .if1 .left)) (c .if2 .taken)
-
-put-elements-requires : tie.Need-put-elements-requires
-put-elements-requires c κs = omega arith
+returns-2 c = search (state-no-room, passed, needs)
 
 control-lines-requires : tie.Need-control-lines-requires
 control-lines-requires c κs =
-    let left = c .before .before .before .before .before in
-    let h = lengths _ (passed _ _ (left .before .before .in-range .ensures) (left .before .if1 .left)) in
+    let room : tie.Else2 = search needs in let r : tie.After-in-range = search needs in
+    let h = lengths _ (passed _ _ (r .in-range .ensures) (room .before .if1 .left)) in
     (h .0, h .1, omega arith)
 
-same-length : tie.Need-same-length
-same-length c = search needs
-
 returns-3 : tie.Need-returns-3
-returns-3 c =
-    let left = c .before .before .before .before .before .before .before .before in
-    state-listed _ _ _ (passed _ _ (left .before .before .in-range .ensures) (left .before .if1 .left)) _ _ _ _ (left .if2 .left) (c .before .before .before .before .before .before .put-elements .ensures) (c .before .before .control-lines .ensures)
+returns-3 c = search (state-listed, passed, needs)
 
 pub list-state-spec : {M : Type 1} → statement M
 list-state-spec =
     tie.close
     (tie.spec
-    in-range-requires
+    (λ c κs. search needs)
     returns
     returns-2
-    put-elements-requires
+    (λ c κs. search needs)
     control-lines-requires
-    same-length
+    (λ c. search needs)
     returns-3)

@@ -7,14 +7,16 @@ use Rattle.listing.proofs.put_element.Tie as tie
 returns : tie.Need-returns
 returns c = none-wrote _ _ _ _ (c .if1 .taken)
 
-element-line-requires : tie.Need-element-line-requires
-element-line-requires c κs = search needs
-
-same-length : tie.Need-same-length
-same-length c = search needs
-
 returns-2 : tie.Need-returns-2
-returns-2 c = one-wrote _ _ _ _ _ _ (c .before .before .before .before .if1 .left) (c .before .before .element-line .ensures)
+returns-2 c =
+    let l : tie.After-element-line = search needs in let e : tie.Else1 = search needs in
+    one-wrote _ _ _ _ _ _ (e .if1 .left) (l .element-line .ensures)
 
 pub put-element-spec : {M : Type 1} → statement M
-put-element-spec = tie.close (tie.spec returns element-line-requires same-length returns-2)
+put-element-spec =
+    tie.close
+    (tie.spec
+    returns
+    (λ c κs. search needs)
+    (λ c. search needs)
+    returns-2)

@@ -4,11 +4,12 @@ use Rattle.longword.proofs.Overflow.{difference-overflow}
 use Rattle.longword.proofs.difference_overflows.Statement.{statement}
 use Rattle.longword.proofs.difference_overflows.Tie as tie
 
-difference-requires : tie.Need-difference-requires
-difference-requires c κs = search needs
-
 returns : tie.Need-returns
 returns c = search (difference-overflow, needs)
 
 pub difference-overflows-spec : {M : Type 1} → statement M
-difference-overflows-spec = tie.close (tie.spec difference-requires returns)
+difference-overflows-spec =
+    tie.close
+    (tie.spec
+    (λ c κs. search needs)
+    returns)

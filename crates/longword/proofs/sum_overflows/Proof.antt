@@ -4,11 +4,12 @@ use Rattle.longword.proofs.Overflow.{sum-overflow}
 use Rattle.longword.proofs.sum_overflows.Statement.{statement}
 use Rattle.longword.proofs.sum_overflows.Tie as tie
 
-sum-requires : tie.Need-sum-requires
-sum-requires c κs = search needs
-
 returns : tie.Need-returns
 returns c = search (sum-overflow, needs)
 
 pub sum-overflows-spec : {M : Type 1} → statement M
-sum-overflows-spec = tie.close (tie.spec sum-requires returns)
+sum-overflows-spec =
+    tie.close
+    (tie.spec
+    (λ c κs. search needs)
+    returns)

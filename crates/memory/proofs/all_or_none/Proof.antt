@@ -1,39 +1,37 @@
 -- `all_or_none` meets its contract: a bad element leaves all as it was, else every operated element is moved. Assumes nothing.
+use Rattle.state.specs.State.{state}
 use Rattle.memory.proofs.Accessing.{none, every, lie-within}
 use borrow.Author.Needs.{needs}
 use Rattle.memory.proofs.all_or_none.Statement.{statement}
 use Rattle.memory.proofs.all_or_none.Tie as tie
 
-tested-requires : tie.Need-tested-requires
-tested-requires c κs = search needs
-
-enum-told : tie.Need-enum-told
-enum-told c = search needs
+all-requires : tie.Need-all-requires
+all-requires c κs = search (lie-within, needs)
 
 returns : tie.Need-returns
 returns c =
-    let args = c .before .before .before .before .before .args in
-    none (args .store) (args .quadword) (args .origin) (args .vc .0) (args .which) _ (args .elements .now) (args .window .now) _ _
-    (c .before .tested .ensures) (c .match .keys2)
-
-all-requires : tie.Need-all-requires
-all-requires c κs =
-    let args = c .before .before .before .before .before .before .before .before .before .args in (
-      search needs,
-      lie-within (args .store) (args .quadword) (args .origin) (args .vc .0) (args .which) _ (args .elements .now) (args .window .now) _ _
-          (c .before .before .before .before .before .tested .ensures) (c .before .before .before .enum-told .given .1),
-    )
-
-same-length : tie.Need-same-length
-same-length c = search needs
+    let all : tie.After-all = search needs in let start : tie.Start = search needs in
+    let told : tie.After-enum-told = search needs in let t : tie.After-tested = search needs in let args = start .args in
+    every (args .store) (args .quadword) (args .vc .0) (args .which) _ (state (args .elements .now) (args .control)) (args .window .now) _ _
+    (t .tested .ensures) (told .enum-told .given .1) _ _ (all .all .ensures)
 
 returns-2 : tie.Need-returns-2
 returns-2 c =
-    let args = c .before .before .before .before .before .before .before .before .before .before .before .before .args in
-    every (args .store) (args .quadword) (args .origin) (args .vc .0) (args .which) _ (args .elements .now) (args .window .now) _ _
-    (c .before .before .before .before .before .before .before .before .tested .ensures)
-    (c .before .before .before .before .before .before .enum-told .given .1) _ (c .before .before .all .ensures)
+    let start : tie.Start = search needs in
+    let known : tie.After-found = search needs in let t : tie.After-tested = search needs in let args = start .args in
+    none (args .store) (args .quadword) (args .vc .0) (args .which) _ (state (args .elements .now) (args .control)) (args .window .now) _ _
+    (t .tested .ensures) _ _ _ (c .refused .result) (known .found .given .1) (c .before .bad-element .ensures) (c .refused .ensures)
 
 pub all-or-none-spec : {M : Type 1} → statement M
 all-or-none-spec =
-    tie.close (tie.spec tested-requires enum-told returns all-requires same-length returns-2)
+    tie.close
+    (tie.spec
+    (λ c κs. search needs)
+    (λ c. search needs)
+    all-requires
+    (λ c. search needs)
+    (λ c κs. search needs)
+    (λ c κs. search needs)
+    (λ c. search needs)
+    returns
+    returns-2)

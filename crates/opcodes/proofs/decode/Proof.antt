@@ -1,46 +1,37 @@
 -- `decode` meets its contract: by the law of each answer. Assumes nothing.
-use Rattle.opcodes.proofs.Checks.{opcode-refused, read-refused, read-accepted}
 use borrow.Author.Needs.{needs}
+use Rattle.opcodes.proofs.Words.{no-opcode, is-disabled, is-memory, no-word, an-instruction}
 use Rattle.opcodes.proofs.decode.Statement.{statement}
 use Rattle.opcodes.proofs.decode.Tie as tie
 
-look-up-requires : tie.Need-look-up-requires
-look-up-requires c κs = search needs
-
-enum-known-work : tie.Need-enum-known-work
-enum-known-work c = search needs
-
-enum-told : tie.Need-enum-told
-enum-told c = search needs
-
 returns : tie.Need-returns
-returns c = search (opcode-refused, needs)
-
-read-control-requires : tie.Need-read-control-requires
-read-control-requires c κs = search needs
-
-enum-known-instruction : tie.Need-enum-known-instruction
-enum-known-instruction c = search needs
-
-enum-told-2 : tie.Need-enum-told-2
-enum-told-2 c = search needs
+returns c = search (no-opcode, needs)
 
 returns-2 : tie.Need-returns-2
-returns-2 c = search (read-refused, needs)
+returns-2 c = search (is-disabled, needs)
 
 returns-3 : tie.Need-returns-3
-returns-3 c = search (read-accepted, needs)
+returns-3 c = search (is-memory, needs)
+
+returns-4 : tie.Need-returns-4
+returns-4 c = search (no-word, needs)
+
+returns-5 : tie.Need-returns-5
+returns-5 c = search (an-instruction, needs)
 
 pub decode-spec : {M : Type 1} → statement M
 decode-spec =
     tie.close
     (tie.spec
-    look-up-requires
-    enum-known-work
-    enum-told
+    (λ c κs. search needs)
+    (λ c. search needs)
+    (λ c. search needs)
     returns
-    read-control-requires
-    enum-known-instruction
-    enum-told-2
     returns-2
-    returns-3)
+    (λ c κs. search needs)
+    returns-3
+    (λ c κs. search needs)
+    (λ c. search needs)
+    (λ c. search needs)
+    returns-4
+    returns-5)

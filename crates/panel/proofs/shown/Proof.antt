@@ -4,17 +4,17 @@ use borrow.Author.Needs.{needs}
 use Rattle.panel.proofs.shown.Statement.{statement}
 use Rattle.panel.proofs.shown.Tie as tie
 
-read-floating-requires : tie.Need-read-floating-requires
-read-floating-requires c κs = search needs
-
 returns : tie.Need-returns
-returns c = as-floating _ _ _ (c .before .if1 .taken) (c .read-floating .ensures)
-
-read-longword-requires : tie.Need-read-longword-requires
-read-longword-requires c κs = search needs
+returns c = search (as-floating, needs)
 
 returns-2 : tie.Need-returns-2
-returns-2 c = as-longword _ _ _ (c .before .if1 .left) (c .read-longword .ensures)
+returns-2 c = search (as-longword, needs)
 
 pub shown-spec : {M : Type 1} → statement M
-shown-spec = tie.close (tie.spec read-floating-requires returns read-longword-requires returns-2)
+shown-spec =
+    tie.close
+    (tie.spec
+    (λ c κs. search needs)
+    returns
+    (λ c κs. search needs)
+    returns-2)

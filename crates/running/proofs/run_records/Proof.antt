@@ -7,49 +7,43 @@ use borrow.Author.Needs.{needs}
 use Rattle.running.proofs.run_records.Statement.{statement}
 use Rattle.running.proofs.run_records.Tie as tie
 
-well-formed-requires : tie.Need-well-formed-requires
-well-formed-requires c κs = search needs
-
 returns : tie.Need-returns
-returns c = no-queue _ _ (c .before .well-formed .ensures) (state _ _) (c .if1 .taken)
+returns c =
+    let w : tie.After-well-formed = search needs in
+    no-queue _ _ (w .well-formed .ensures) (state _ _) (c .before .if1 .taken) (c .refused .result) (c .refused .ensures)
 
 take-apart-requires : tie.Need-take-apart-requires
-take-apart-requires c κs = few _ _ (c .before .before .before .before .well-formed .ensures) (c .before .before .before .if1 .left)
+take-apart-requires c κs =
+    let e : tie.Else1 = search needs in let w : tie.After-well-formed = search needs in
+    few _ _ (w .well-formed .ensures) (e .if1 .left)
 
 array-share-prefix-opcodes : tie.Need-array-share-prefix-opcodes
-array-share-prefix-opcodes c = part-within _ _ (c .before .before .before .before .before .before .well-formed .ensures) (c .before .before .before .before .before .if1 .left) _ _ _ (length-replicate {A = ℕ} 16 0) (c .before .take-apart .ensures .0)
+array-share-prefix-opcodes c = search (part-within, length-replicate {A = ℕ} 16 0, needs)
 
 slice-aggregate-run : tie.Need-slice-aggregate-run
-slice-aggregate-run c = part-length _ _ (c .before .before .before .before .before .before .before .well-formed .ensures) (c .before .before .before .before .before .before .if1 .left) _ _ _ (length-replicate {A = ℕ} 16 0) (c .before .before .take-apart .ensures .0)
+slice-aggregate-run c = search (part-length, length-replicate {A = ℕ} 16 0, needs)
 
 array-share-prefix-cntrls : tie.Need-array-share-prefix-cntrls
-array-share-prefix-cntrls c = part-within _ _ (c .before .before .before .before .before .before .before .well-formed .ensures) (c .before .before .before .before .before .before .if1 .left) _ _ _ (length-replicate {A = ℕ} 16 0) (c .before .before .take-apart .ensures .1)
+array-share-prefix-cntrls c = search (part-within, length-replicate {A = ℕ} 16 0, needs)
 
 slice-aggregate-run-2 : tie.Need-slice-aggregate-run-2
-slice-aggregate-run-2 c = part-length _ _ (c .before .before .before .before .before .before .before .before .well-formed .ensures) (c .before .before .before .before .before .before .before .if1 .left) _ _ _ (length-replicate {A = ℕ} 16 0) (c .before .before .before .take-apart .ensures .1)
+slice-aggregate-run-2 c = search (part-length, length-replicate {A = ℕ} 16 0, needs)
 
 array-share-prefix-scalars : tie.Need-array-share-prefix-scalars
-array-share-prefix-scalars c = part-within _ _ (c .before .before .before .before .before .before .before .before .well-formed .ensures) (c .before .before .before .before .before .before .before .if1 .left) _ _ _ (length-replicate {A = ℕ} 16 0) (c .before .before .before .take-apart .ensures .2)
+array-share-prefix-scalars c = search (part-within, length-replicate {A = ℕ} 16 0, needs)
 
 slice-aggregate-run-3 : tie.Need-slice-aggregate-run-3
-slice-aggregate-run-3 c = part-length _ _ (c .before .before .before .before .before .before .before .before .before .well-formed .ensures) (c .before .before .before .before .before .before .before .before .if1 .left) _ _ _ (length-replicate {A = ℕ} 16 0) (c .before .before .before .before .take-apart .ensures .2)
-
-run-requires : tie.Need-run-requires
-run-requires c κs = search needs
-
-of-reply-requires : tie.Need-of-reply-requires
-of-reply-requires c κs = search needs
+slice-aggregate-run-3 c = search (part-length, length-replicate {A = ℕ} 16 0, needs)
 
 returns-2 : tie.Need-returns-2
-returns-2 c =
-    let t = c .before .before .before .before .before .before .take-apart .ensures in
-    queue-ran _ _ (c .before .before .before .before .before .before .before .before .before .before .before .well-formed .ensures) (c .before .before .before .before .before .before .before .before .before .before .if1 .left) (state _ _) _ _ _ _ _ _ _ _ _ _ _ _ (length-replicate {A = ℕ} 16 0) (length-replicate {A = ℕ} 16 0) (length-replicate {A = ℕ} 16 0) (t .0) (t .1) (t .2) (c .before .run .ensures) (c .of-reply .ensures .0) (c .of-reply .ensures .1)
+returns-2 c = search (queue-ran, length-replicate {A = ℕ} 16 0, needs)
 
 pub run-records-spec : {M : Type 1} → statement M
 run-records-spec =
     tie.close
     (tie.spec
-    well-formed-requires
+    (λ c κs. search needs)
+    (λ c κs. search needs)
     returns
     take-apart-requires
     array-share-prefix-opcodes
@@ -58,6 +52,5 @@ run-records-spec =
     slice-aggregate-run-2
     array-share-prefix-scalars
     slice-aggregate-run-3
-    run-requires
-    of-reply-requires
+    (λ c κs. search needs)
     returns-2)

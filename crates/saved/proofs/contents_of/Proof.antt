@@ -5,12 +5,6 @@ use borrow.Author.Needs.{needs}
 use Rattle.saved.proofs.contents_of.Statement.{statement}
 use Rattle.saved.proofs.contents_of.Tie as tie
 
-mul-result : tie.Need-mul-result
-mul-result c = search needs
-
-element-copy-out-result : tie.Need-element-copy-out-result
-element-copy-out-result c = search needs
-
 returns : tie.Need-returns
 unfolding contentsOf
 returns c = simp (lt-ltb _ _ (c .before .if1 .taken))
@@ -34,10 +28,12 @@ returns-5 c = rw (c .if5 .taken)
 returns-6 : tie.Need-returns-6
 unfolding contentsOf
 returns-6 c =
+    let e₃ : tie.Else3 = search needs in let e₂ : tie.Else2 = search needs in
+    let e₁ : tie.Else1 = search needs in
     simp (
-      le-ltb _ _ (c .before .before .before .before .if1 .left),
-      ne-eqb _ _ (c .before .before .before .if2 .left),
-      ne-eqb _ _ (c .before .before .if3 .left),
+      le-ltb _ _ (e₁ .if1 .left),
+      ne-eqb _ _ (e₂ .if2 .left),
+      ne-eqb _ _ (e₃ .if3 .left),
       ne-eqb _ _ (c .before .if4 .left),
       ne-eqb _ _ (c .if5 .left),
     )
@@ -46,8 +42,8 @@ pub contents-of-spec : {M : Type 1} → statement M
 contents-of-spec =
     tie.close
     (tie.spec
-    mul-result
-    element-copy-out-result
+    (λ c. search needs)
+    (λ c. search needs)
     returns
     returns-2
     returns-3

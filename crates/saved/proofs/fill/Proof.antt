@@ -1,7 +1,6 @@
 -- `fill` meets its contract: after k turns the first k elements are the file's. Assumes nothing.
 use mathlib.Core.Path.{_≡_}
 use Prim.Native.Nat.{_≤_, _-_}
-use native.Mathlib.Omega.{arith}
 use borrow.Author.Needs.{needs}
 use Rattle.saved.specs.Load.{elementsIn}
 use Rattle.saved.proofs.Loading.{fill-starts, fill-turns, fill-ends}
@@ -15,28 +14,13 @@ abbrev μ-loop : tie.MeasureT-loop
 μ-loop elements₀ file k₀ elements k = 1024 - k
 
 loop-holds : tie.Need-loop-holds Inv-loop μ-loop
-loop-holds c = (search needs, fill-starts _ _)
-
-contents-at-requires : tie.Need-contents-at-requires Inv-loop μ-loop
-contents-at-requires c κs = search needs
-
-mul-elements : tie.Need-mul-elements Inv-loop μ-loop
-mul-elements c = omega arith
-
-element-write-elements : tie.Need-element-write-elements Inv-loop μ-loop
-element-write-elements c = omega arith
-
-add-k : tie.Need-add-k Inv-loop μ-loop
-add-k c = omega arith
-
-loop-less : tie.Need-loop-less Inv-loop μ-loop
-loop-less c = omega arith
+loop-holds c = search (fill-starts, needs)
 
 loop-again : tie.Need-loop-again Inv-loop μ-loop
-loop-again c = (omega arith, fill-turns _ _ _ _ _ (c .before .before .loop .inv .1) (c .contents-at .ensures))
+loop-again c = search (fill-turns, needs)
 
 returns : tie.Need-returns Inv-loop μ-loop
-returns c = fill-ends _ _ _ _ (c .before .loop .inv .0) (c .loop-test .left) (c .before .loop .inv .1)
+returns c = search (fill-ends, needs)
 
 pub fill-spec : {M : Type 1} → statement M
 fill-spec =
@@ -45,10 +29,10 @@ fill-spec =
     Inv-loop
     μ-loop
     loop-holds
-    contents-at-requires
-    mul-elements
-    element-write-elements
-    add-k
-    loop-less
+    (λ c κs. search needs)
+    (λ c. search needs)
+    (λ c. search needs)
+    (λ c. search needs)
+    (λ c. search needs)
     loop-again
     returns)

@@ -16,40 +16,22 @@ abbrev μ-loop : tie.MeasureT-loop
 μ-loop file k₀ k = 1029 - k
 
 loop-holds : tie.Need-loop-holds Inv-loop μ-loop
-loop-holds c = (search needs, starts _)
-
-mul-at : tie.Need-mul-at Inv-loop μ-loop
-mul-at c = omega arith
-
-add-end : tie.Need-add-end Inv-loop μ-loop
-add-end c = omega arith
+loop-holds c = search (starts, needs)
 
 returns : tie.Need-returns Inv-loop μ-loop
-returns c = sym (stops 1029 _ _ (c .before .loop-test .taken) (c .before .before .loop .inv .1) (cut _ _ (c .if1 .taken)))
-
-sub-good : tie.Need-sub-good Inv-loop μ-loop
-sub-good c = omega arith
-
-part-good-start : tie.Need-part-good-start Inv-loop μ-loop
-part-good-start c = omega arith
-
-part-good-end : tie.Need-part-good-end Inv-loop μ-loop
-part-good-end c = omega arith
-
-good-requires : tie.Need-good-requires Inv-loop μ-loop
-good-requires c κs = search needs
+returns c =
+    let l : tie.At-loop Inv-loop μ-loop = search needs in
+    sym (stops 1029 _ _ (c .before .loop-test .taken) (l .loop .inv .1) (cut _ _ (c .if1 .taken)))
 
 returns-2 : tie.Need-returns-2 Inv-loop μ-loop
-returns-2 c = sym (stops 1029 _ _ (search needs) (c .before .before .before .before .before .loop .inv .1) (whole _ _ _ (c .before .before .before .if1 .left) (c .before .good2 .ensures) ∙ not-true _ (c .if2 .taken)))
-
-add-k : tie.Need-add-k Inv-loop μ-loop
-add-k c = omega arith
-
-loop-less : tie.Need-loop-less Inv-loop μ-loop
-loop-less c = omega arith
+returns-2 c =
+    let e : tie.Else1 Inv-loop μ-loop = search needs in let l : tie.At-loop Inv-loop μ-loop = search needs in
+    sym (stops 1029 _ _ (search needs) (l .loop .inv .1) (whole _ _ _ (e .if1 .left) (c .before .good2 .ensures) ∙ not-true _ (c .if2 .taken)))
 
 loop-again : tie.Need-loop-again Inv-loop μ-loop
-loop-again c = (omega arith, turns _ _ (c .before .before .before .before .before .loop .inv .1) (whole _ _ _ (c .before .before .before .if1 .left) (c .before .good2 .ensures) ∙ not-false _ (c .if2 .left)))
+loop-again c =
+    let e : tie.Else1 Inv-loop μ-loop = search needs in let l : tie.At-loop Inv-loop μ-loop = search needs in
+    (omega arith, turns _ _ (l .loop .inv .1) (whole _ _ _ (e .if1 .left) (c .before .good2 .ensures) ∙ not-false _ (c .if2 .left)))
 
 returns-3 : tie.Need-returns-3 Inv-loop μ-loop
 returns-3 c = sym (ends _ _ (c .before .loop .inv .0) (c .loop-test .left) (c .before .loop .inv .1))
@@ -61,15 +43,15 @@ leading-spec =
     Inv-loop
     μ-loop
     loop-holds
-    mul-at
-    add-end
+    (λ c. search needs)
+    (λ c. search needs)
     returns
-    sub-good
-    part-good-start
-    part-good-end
-    good-requires
+    (λ c. search needs)
+    (λ c. search needs)
+    (λ c. search needs)
+    (λ c κs. search needs)
     returns-2
-    add-k
-    loop-less
+    (λ c. search needs)
+    (λ c. search needs)
     loop-again
     returns-3)

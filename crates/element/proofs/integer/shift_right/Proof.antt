@@ -3,9 +3,6 @@ use borrow.Author.Needs.{needs}
 use Rattle.element.proofs.integer.shift_right.Statement.{statement}
 use Rattle.element.proofs.integer.shift_right.Tie as tie
 
-shift-right-requires : tie.Need-shift-right-requires
-shift-right-requires c κs = search needs
-
 place-requires : tie.Need-place-requires
 place-requires c κs = rw (c .shift-right .ensures) (shifted-right-fits _ _)
 
@@ -13,4 +10,9 @@ returns : tie.Need-returns
 returns c = cc
 
 pub shift-right-spec : {M : Type 1} → statement M
-shift-right-spec = tie.close (tie.spec shift-right-requires place-requires returns)
+shift-right-spec =
+    tie.close
+    (tie.spec
+    (λ c κs. search needs)
+    place-requires
+    returns)

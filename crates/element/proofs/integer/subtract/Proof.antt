@@ -3,12 +3,6 @@ use borrow.Author.Needs.{needs}
 use Rattle.element.proofs.integer.subtract.Statement.{statement}
 use Rattle.element.proofs.integer.subtract.Tie as tie
 
-difference-overflows-requires : tie.Need-difference-overflows-requires
-difference-overflows-requires c κs = search needs
-
-difference-requires : tie.Need-difference-requires
-difference-requires c κs = search needs
-
 place-requires : tie.Need-place-requires
 place-requires c κs = rw (c .difference .ensures) (low32-fits _)
 
@@ -17,4 +11,8 @@ returns c = cc
 
 pub subtract-spec : {M : Type 1} → statement M
 subtract-spec =
-    tie.close (tie.spec difference-overflows-requires difference-requires place-requires returns)
+    tie.close (tie.spec
+    (λ c κs. search needs)
+    (λ c κs. search needs)
+    place-requires
+    returns)

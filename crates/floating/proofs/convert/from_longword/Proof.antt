@@ -7,16 +7,12 @@ use Rattle.floating.proofs.convert.from_longword.Tie as tie
 returns : tie.Need-returns
 returns c = search (longword-none, needs)
 
-wide-requires : tie.Need-wide-requires
-wide-requires c κs = search needs
-
-size-of-requires : tie.Need-size-of-requires
-size-of-requires c κs = search needs
-
 word-of-size-requires : tie.Need-word-of-size-requires
 word-of-size-requires c κs =
-    let l = c .before .before .before .args .l in
-    let n = size-in l (c .before .wide .result) (c .size-of .result) (search needs) (c .before .before .if1 .left) (c .before .wide .ensures) (c .size-of .ensures) in
+    let tested = c .before .before in
+    let l = tested .before .args .l in
+    let n =
+    size-in l (c .before .wide .result) (c .size-of .result) (search needs) (tested .if1 .left) (c .before .wide .ensures) (c .size-of .ensures) in
     (search needs, n .0, n .1)
 
 returns-2 : tie.Need-returns-2
@@ -24,4 +20,9 @@ returns-2 c = search (longword-some, needs)
 
 pub from-longword-spec : {M : Type 1} → statement M
 from-longword-spec =
-    tie.close (tie.spec returns wide-requires size-of-requires word-of-size-requires returns-2)
+    tie.close (tie.spec
+    returns
+    (λ c κs. search needs)
+    (λ c κs. search needs)
+    word-of-size-requires
+    returns-2)

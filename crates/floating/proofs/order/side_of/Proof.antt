@@ -1,43 +1,38 @@
 -- `floating::order::side_of` meets its contract. Assumes nothing.
 use native.Mathlib.Omega.{arith}
+use Rattle.floating.specs.Format.{F}
+use Rattle.floating.proofs.Packing.{F-sound}
 use Rattle.floating.proofs.Ordering.{rising-most, side-found}
 use borrow.Author.Needs.{needs}
 use Rattle.floating.proofs.order.side_of.Statement.{statement}
 use Rattle.floating.proofs.order.side_of.Tie as tie
 
-level-of-requires : tie.Need-level-of-requires
-level-of-requires c κs = search needs
-
-level-of-requires-2 : tie.Need-level-of-requires-2
-level-of-requires-2 c κs = search needs
-
-chosen-requires : tie.Need-chosen-requires
-chosen-requires c κs = search needs
-
-chosen-requires-2 : tie.Need-chosen-requires-2
-chosen-requires-2 c κs = search needs
-
 add-rising : tie.Need-add-rising
-add-rising c = let m = rising-most (c .before .before .before .level-of .result) (c .before .before .level-of2 .result) (c .before .chosen .result) (c .chosen2 .result) (c .before .chosen .ensures) (c .chosen2 .ensures) in omega arith
+add-rising c =
+    let second = c .before .before in
+    let x = second .before .level-of .result in
+    let most = rising-most x (second .level-of2 .result) (c .before .chosen .result) (c .chosen2 .result) (c .before .chosen .ensures) (c .chosen2 .ensures) in
+    omega arith
 
 sub-chosen : tie.Need-sub-chosen
-sub-chosen c = rising-most (c .before .before .before .level-of .result) (c .before .before .level-of2 .result) (c .before .chosen .result) (c .chosen2 .result) (c .before .chosen .ensures) (c .chosen2 .ensures)
-
-chosen-requires-3 : tie.Need-chosen-requires-3
-chosen-requires-3 c κs = search needs
+sub-chosen c =
+    let second = c .before .before in
+    let x = second .before .level-of .result in
+    let most = rising-most x (second .level-of2 .result) (c .before .chosen .result) (c .chosen2 .result) (c .before .chosen .ensures) (c .chosen2 .ensures) in
+    most
 
 returns : tie.Need-returns
-returns c = search (side-found, needs)
+returns c = search (side-found F F-sound, needs)
 
 pub side-of-spec : {M : Type 1} → statement M
 side-of-spec =
     tie.close
     (tie.spec
-    level-of-requires
-    level-of-requires-2
-    chosen-requires
-    chosen-requires-2
+    (λ c κs. search needs)
+    (λ c κs. search needs)
+    (λ c κs. search needs)
+    (λ c κs. search needs)
     add-rising
     sub-chosen
-    chosen-requires-3
+    (λ c κs. search needs)
     returns)

@@ -1,86 +1,50 @@
 -- `floating::product::of_words` meets its contract. Assumes nothing.
 use mathlib.Core.Path.{sym, ap, _∙_}
+use lib.Dec.{lit≤}
 use Rattle.floating.specs.Format.{F}
 use Rattle.floating.specs.Operations.{answered}
-use Rattle.floating.proofs.Refusing.{none-zero, rare-tested}
-use Rattle.floating.proofs.Products.{product-settled}
+use Rattle.floating.proofs.Refusing.{none-zero, special-tested}
+use Rattle.floating.proofs.Products.{product-placed}
 use borrow.Author.Needs.{needs}
 use Rattle.floating.proofs.product.of_words.Statement.{statement}
 use Rattle.floating.proofs.product.of_words.Tie as tie
 
-exponent-of-requires : tie.Need-exponent-of-requires
-exponent-of-requires c κs = search needs
-
-exponent-of-requires-2 : tie.Need-exponent-of-requires-2
-exponent-of-requires-2 c κs = search needs
-
-multiply-rare-requires : tie.Need-multiply-rare-requires
-multiply-rare-requires c κs =
+multiply-special-requires : tie.Need-multiply-special-requires
+multiply-special-requires c κs =
     let d = c .before in
-    sym (rare-tested F _ _ _ _ (d .before .exponent-of .ensures) (d .exponent-of2 .ensures)) ∙ c .if1 .taken
+    sym (special-tested F _ _ _ _ (d .before .exponent-of .ensures) (d .exponent-of2 .ensures)) ∙ c .if1 .taken
 
 returns : tie.Need-returns
-returns c = c .multiply-rare .ensures (c .before .before .before .before .args .exc)
-
-sign-of-product-requires : tie.Need-sign-of-product-requires
-sign-of-product-requires c κs = search needs
-
-significand-of-requires : tie.Need-significand-of-requires
-significand-of-requires c κs = search needs
-
-significand-of-requires-2 : tie.Need-significand-of-requires-2
-significand-of-requires-2 c κs = search needs
-
-whole-product-requires : tie.Need-whole-product-requires
-whole-product-requires c κs = search needs
-
-zeros-of-requires : tie.Need-zeros-of-requires
-zeros-of-requires c κs = search needs
-
-add-deliver : tie.Need-add-deliver
-add-deliver c = search needs
-
-add-deliver-2 : tie.Need-add-deliver-2
-add-deliver-2 c = search needs
-
-raised-requires : tie.Need-raised-requires
-raised-requires c κs = search needs
-
-near-of-requires : tie.Need-near-of-requires
-near-of-requires c κs = search needs
-
-deliver-requires : tie.Need-deliver-requires
-deliver-requires c κs = search needs
+returns c = let tested = c .before .before in c .multiply-special .ensures (tested .before .before .args .exc)
 
 returns-2 : tie.Need-returns-2
 returns-2 c =
-    let m = c .before .near-of in
-    let y = c .before .before .raised in
-    let z = c .before .before .before .zeros-of in
-    let p = c .before .before .before .before in
-    let d = p .before .before .before .before in
-    let a = d .before .before .before .args in
-    let n = none-zero F (a .a) (a .b) (sym (rare-tested F (a .a) (a .b) _ _ (d .before .before .exponent-of .ensures) (d .before .exponent-of2 .ensures)) ∙ d .if1 .left) in
-    c .deliver .ensures
-    ∙ ap (answered (a .exc))
-    (product-settled (a .a) (a .b) _ _ _ _ _ _ _ _ _ (p .before .before .before .sign-of-product .ensures .0) (d .before .before .exponent-of .ensures) (d .before .exponent-of2 .ensures) (n .0) (n .1) (p .before .before .significand-of .ensures) (p .before .significand-of2 .ensures) (p .whole-product .ensures .0) (z .ensures .1) (z .ensures .2) (y .ensures) (m .ensures .0))
+    let x = c .before .whole-product .ensures .0 in
+    let second = c .before .before in
+    let mb = second .significand-of2 .ensures in
+    let ma = second .before .significand-of .ensures in
+    let signed = second .before .before in
+    let s = signed .sign-of-product .ensures .0 in
+    let tested = signed .before in
+    let eb = tested .before .exponent-of2 .ensures in
+    let first = tested .before .before in
+    let ea = first .exponent-of .ensures in
+    let a = first .before .args in
+    let n = none-zero F (a .a) (a .b) (sym (special-tested F (a .a) (a .b) _ _ ea eb) ∙ tested .if1 .left) in
+    c .of-digits .ensures ∙ ap (answered (a .exc)) (product-placed F (a .a) (a .b) 64 _ _ _ _ _ _ (lit≤ tt) s ea eb (n .0) (n .1) ma mb x)
 
 pub of-words-spec : {M : Type 1} → statement M
 of-words-spec =
     tie.close
     (tie.spec
-    exponent-of-requires
-    exponent-of-requires-2
-    multiply-rare-requires
+    (λ c κs. search needs)
+    (λ c κs. search needs)
+    multiply-special-requires
     returns
-    sign-of-product-requires
-    significand-of-requires
-    significand-of-requires-2
-    whole-product-requires
-    zeros-of-requires
-    add-deliver
-    add-deliver-2
-    raised-requires
-    near-of-requires
-    deliver-requires
+    (λ c κs. search needs)
+    (λ c κs. search needs)
+    (λ c κs. search needs)
+    (λ c κs. search needs)
+    (λ c. search needs)
+    (λ c κs. search needs)
     returns-2)

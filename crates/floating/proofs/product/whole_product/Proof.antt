@@ -1,15 +1,16 @@
 -- `floating::product::whole_product` meets its contract. Assumes nothing.
 use borrow.Author.Needs.{needs}
 use native.Mathlib.Omega.{arith}
+use Rattle.floating.specs.Format.{F}
 use Rattle.floating.proofs.Align.{product-low, product-high}
 use Rattle.floating.proofs.product.whole_product.Statement.{statement}
 use Rattle.floating.proofs.product.whole_product.Tie as tie
 
 mul-result : tie.Need-mul-result
-mul-result c = omega (arith, product-high 24 (c .args .a) (c .args .b) (search needs) (search needs))
+mul-result c = omega (arith, product-high (F .bits) (c .args .a) (c .args .b) (search needs) (search needs))
 
 returns : tie.Need-returns
-returns c = (search needs, product-low 24 _ _ (search needs) (search needs), product-high 24 _ _ (search needs) (search needs))
+returns c = (search needs, product-low (F .bits) _ _ (search needs) (search needs), product-high (F .bits) _ _ (search needs) (search needs))
 
 pub whole-product-spec : {M : Type 1} → statement M
 whole-product-spec = tie.close (tie.spec mul-result returns)

@@ -3,84 +3,52 @@ use mathlib.Core.Path.{sym, ap, _∙_}
 use lib.Dec.{lit<}
 use Rattle.floating.specs.Format.{F}
 use Rattle.floating.specs.Operations.{answered}
-use Rattle.floating.proofs.Refusing.{none-zero, rare-tested}
-use Rattle.floating.proofs.Quotients.{quotient-settled}
+use Rattle.floating.proofs.Refusing.{none-zero, special-tested}
+use Rattle.floating.proofs.Quotients.{quotient-placed}
 use borrow.Author.Needs.{needs}
 use Rattle.floating.proofs.quotient.of_words.Statement.{statement}
 use Rattle.floating.proofs.quotient.of_words.Tie as tie
 
-exponent-of-requires : tie.Need-exponent-of-requires
-exponent-of-requires c κs = search needs
-
-exponent-of-requires-2 : tie.Need-exponent-of-requires-2
-exponent-of-requires-2 c κs = search needs
-
-divide-rare-requires : tie.Need-divide-rare-requires
-divide-rare-requires c κs =
+divide-special-requires : tie.Need-divide-special-requires
+divide-special-requires c κs =
     let d = c .before in
-    sym (rare-tested F _ _ _ _ (d .before .exponent-of .ensures) (d .exponent-of2 .ensures)) ∙ c .if1 .taken
+    sym (special-tested F _ _ _ _ (d .before .exponent-of .ensures) (d .exponent-of2 .ensures)) ∙ c .if1 .taken
 
 returns : tie.Need-returns
-returns c = c .divide-rare .ensures (c .before .before .before .before .args .exc)
-
-sign-of-product-requires : tie.Need-sign-of-product-requires
-sign-of-product-requires c κs = search needs
-
-significand-of-requires : tie.Need-significand-of-requires
-significand-of-requires c κs = search needs
-
-significand-of-requires-2 : tie.Need-significand-of-requires-2
-significand-of-requires-2 c κs = search needs
-
-places-up-requires : tie.Need-places-up-requires
-places-up-requires c κs = search needs
-
-whole-quotient-requires : tie.Need-whole-quotient-requires
-whole-quotient-requires c κs = search needs
-
-add-deliver : tie.Need-add-deliver
-add-deliver c = search needs
-
-add-deliver-2 : tie.Need-add-deliver-2
-add-deliver-2 c = search needs
-
-nearest-requires : tie.Need-nearest-requires
-nearest-requires c κs = search needs
-
-deliver-requires : tie.Need-deliver-requires
-deliver-requires c κs = search needs
+returns c = let tested = c .before .before in c .divide-special .ensures (tested .before .before .args .exc)
 
 returns-2 : tie.Need-returns-2
 returns-2 c =
-    let p = c .before .before in
-    let q = p .whole-quotient .ensures in
-    let mb = p .before .before .significand-of2 .ensures in
-    let ma = p .before .before .before .significand-of .ensures in
-    let s = p .before .before .before .before .sign-of-product .ensures .0 in
-    let d = p .before .before .before .before .before in
-    let eb = d .before .exponent-of2 .ensures in
-    let ea = d .before .before .exponent-of .ensures in
-    let a = d .before .before .before .args in
-    let n = none-zero F (a .a) (a .b) (sym (rare-tested F (a .a) (a .b) _ _ ea eb) ∙ d .if1 .left) in
-    let settles = quotient-settled F (a .a) (a .b) _ _ _ _ _ _ _ (lit< tt) (search needs) s ea (n .0) eb (n .1) ma mb in
-    c .deliver .ensures
-    ∙ ap (answered (a .exc)) (settles _ (q .0) (q .1) (q .2) (c .before .nearest .ensures .0))
+    let whole = c .before in
+    let x = whole .whole-quotient .ensures in
+    let second = whole .before .before in
+    let mb = second .significand-of2 .ensures in
+    let ma = second .before .significand-of .ensures in
+    let signed = second .before .before in
+    let s = signed .sign-of-product .ensures .0 in
+    let tested = signed .before in
+    let eb = tested .before .exponent-of2 .ensures in
+    let first = tested .before .before in
+    let ea = first .exponent-of .ensures in
+    let a = first .before .args in
+    let n = none-zero F (a .a) (a .b) (sym (special-tested F (a .a) (a .b) _ _ ea eb) ∙ tested .if1 .left) in
+    let placed = quotient-placed F (a .a) (a .b) _ _ _ _ _ _ _ (lit< tt) (search needs) s ea (n .0) eb (n .1) ma mb in
+    c .of-one-more .ensures ∙ ap (answered (a .exc)) (placed (x .0) (x .1))
 
 pub of-words-spec : {M : Type 1} → statement M
 of-words-spec =
     tie.close
     (tie.spec
-    exponent-of-requires
-    exponent-of-requires-2
-    divide-rare-requires
+    (λ c κs. search needs)
+    (λ c κs. search needs)
+    divide-special-requires
     returns
-    sign-of-product-requires
-    significand-of-requires
-    significand-of-requires-2
-    places-up-requires
-    whole-quotient-requires
-    add-deliver
-    add-deliver-2
-    nearest-requires
-    deliver-requires
+    (λ c κs. search needs)
+    (λ c κs. search needs)
+    (λ c κs. search needs)
+    (λ c κs. search needs)
+    (λ c κs. search needs)
+    (λ c. search needs)
+    (λ c. search needs)
+    (λ c κs. search needs)
     returns-2)

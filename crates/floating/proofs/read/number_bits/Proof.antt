@@ -7,11 +7,13 @@ use Rattle.floating.proofs.read.number_bits.Tie as tie
 float-to-bits-result : tie.Need-float-to-bits-result
 float-to-bits-result c = not-nan (c .before .args .x) (c .if1 .taken)
 
-returns : tie.Need-returns
-returns c = search needs
-
 returns-2 : tie.Need-returns-2
 returns-2 c = nan-bits (c .before .args .x) (c .if1 .left)
 
 pub number-bits-spec : {M : Type 1} → statement M
-number-bits-spec = tie.close (tie.spec float-to-bits-result returns returns-2)
+number-bits-spec =
+    tie.close
+    (tie.spec
+    float-to-bits-result
+    (λ c. search needs)
+    returns-2)

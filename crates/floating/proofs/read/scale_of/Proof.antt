@@ -1,31 +1,32 @@
 -- `floating::read::scale_of` meets its contract. Assumes nothing.
+use Prim.Native.Nat.{_+_, _-_}
+use native.Mathlib.Omega.{arith}
+use Rattle.floating.specs.Format.{F}
 use Rattle.floating.proofs.Double.{scale, no-nan}
 use borrow.Author.Needs.{needs}
 use Rattle.floating.proofs.read.scale_of.Statement.{statement}
 use Rattle.floating.proofs.read.scale_of.Tie as tie
 
-mul-wide : tie.Need-mul-wide
-mul-wide c = search needs
-
-add-wide : tie.Need-add-wide
-add-wide c = search needs
-
-add-wide-2 : tie.Need-add-wide-2
-add-wide-2 c = search needs
-
-wide-requires : tie.Need-wide-requires
-wide-requires c κs = search needs
-
-mul-result : tie.Need-mul-result
-mul-result c = search needs
-
 float-from-bits-result : tie.Need-float-from-bits-result
-float-from-bits-result c = search (no-nan, needs)
+float-from-bits-result c =
+    let a = c .before .args in
+    no-nan (F .bits + F .excess) (a .s) (a .e) (a .e + (1023 - (F .bits + F .excess))) (c .wide .result) (search needs) (omega arith) (omega arith)
+    (omega arith) (omega arith)
 
 returns : tie.Need-returns
-returns c = search (scale, needs)
+returns c =
+    let a = c .before .args in
+    scale (F .bits + F .excess) (a .s) (a .e) (a .e + (1023 - (F .bits + F .excess))) (c .wide .result) (search needs) (omega arith) (omega arith)
+    (omega arith) (omega arith)
 
 pub scale-of-spec : {M : Type 1} → statement M
 scale-of-spec =
     tie.close
-    (tie.spec mul-wide add-wide add-wide-2 wide-requires mul-result float-from-bits-result returns)
+    (tie.spec
+    (λ c. search needs)
+    (λ c. search needs)
+    (λ c. search needs)
+    (λ c κs. search needs)
+    (λ c. search needs)
+    float-from-bits-result
+    returns)

@@ -4,18 +4,6 @@ use borrow.Author.Needs.{needs}
 use Rattle.floating.proofs.read.signed.Statement.{statement}
 use Rattle.floating.proofs.read.signed.Tie as tie
 
-cast-result : tie.Need-cast-result
-cast-result c = search needs
-
-returns : tie.Need-returns
-returns c = search needs
-
-sub-result : tie.Need-sub-result
-sub-result c = search needs
-
-cast-result-2 : tie.Need-cast-result-2
-cast-result-2 c = search needs
-
 sub-result-2 : tie.Need-sub-result-2
 sub-result-2 c = below-fits (c .before .args .l) (c .if1 .left) (search needs)
 
@@ -24,4 +12,10 @@ returns-2 c = below-is (c .before .args .l) (c .if1 .left) (search needs)
 
 pub signed-spec : {M : Type 1} → statement M
 signed-spec =
-    tie.close (tie.spec cast-result returns sub-result cast-result-2 sub-result-2 returns-2)
+    tie.close (tie.spec
+    (λ c. search needs)
+    (λ c. search needs)
+    (λ c. search needs)
+    (λ c. search needs)
+    sub-result-2
+    returns-2)

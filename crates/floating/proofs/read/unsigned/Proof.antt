@@ -1,8 +1,8 @@
 -- `floating::read::unsigned` meets its contract. Assumes nothing.
-use Rattle.floating.proofs.Signed.{from-zero, below-zero, Turned}
+use Rattle.floating.proofs.Signed.{from-zero, below-zero, Complemented}
 use mathlib.Core.Path.{_≡_}
 use lib.Dec.{T}
-use lib.IntN.{natAbs}
+use lib.IntN.{ℤ, natAbs}
 use lib.Signed.{nonNeg}
 use mir.Syntax.{w32}
 use mir.Val.{Fits, toZ, ofZ}
@@ -10,10 +10,14 @@ use mir.ValLaws.{toZ-ofZ}
 use Rattle.floating.proofs.read.unsigned.Statement.{statement}
 use Rattle.floating.proofs.read.unsigned.Tie as tie
 
-told : (c : tie.Then1) → T (nonNeg (toZ w32 (ofZ w32 (c .before .args .i)))) × Fits w32 (natAbs (toZ w32 (ofZ w32 (c .before .args .i)))) × (natAbs (toZ w32 (ofZ w32 (c .before .args .i))) ≡ ofZ w32 (c .before .args .i))
+abbrev back : ℤ → ℤ
+back i = toZ w32 (ofZ w32 i)
+
+told : (c : tie.Then1) → T (nonNeg (back (c .before .args .i))) × Fits w32 (natAbs (back (c .before .args .i)))
+    × (natAbs (back (c .before .args .i)) ≡ ofZ w32 (c .before .args .i))
 told c = from-zero (c .before .args .i) _ (c .before .fits .i) (toZ-ofZ w32 (c .before .args .i) (c .before .fits .i)) (c .if1 .taken)
 
-left : (c : tie.Else1) → Turned (c .before .args .i) (toZ w32 (ofZ w32 (c .before .args .i)))
+left : (c : tie.Else1) → Complemented (c .before .args .i) (toZ w32 (ofZ w32 (c .before .args .i)))
 left c = below-zero (c .before .args .i) _ (c .before .fits .i) (toZ-ofZ w32 (c .before .args .i) (c .before .fits .i)) (c .if1 .left)
 
 cast-result : tie.Need-cast-result
@@ -23,16 +27,16 @@ returns : tie.Need-returns
 returns c = told c .2
 
 sub-result : tie.Need-sub-result
-sub-result c = left c .turned-fits
+sub-result c = left c .complement-fits
 
 cast-result-2 : tie.Need-cast-result-2
-cast-result-2 c = (left c .turned-up, left c .turned-room)
+cast-result-2 c = (left c .complement-up, left c .complement-room)
 
 sub-result-2 : tie.Need-sub-result-2
-sub-result-2 c = left c .turned-below
+sub-result-2 c = left c .complement-below
 
 returns-2 : tie.Need-returns-2
-returns-2 c = left c .turned-back
+returns-2 c = left c .complement-back
 
 pub unsigned-spec : {M : Type 1} → statement M
 unsigned-spec =

@@ -4,9 +4,6 @@ use borrow.Author.Needs.{needs}
 use Rattle.floating.proofs.round.cut_down.Statement.{statement}
 use Rattle.floating.proofs.round.cut_down.Tie as tie
 
-chosen-requires : tie.Need-chosen-requires
-chosen-requires c κs = search needs
-
 shifted-requires : tie.Need-shifted-requires
 shifted-requires c κs = search (cut-few, needs)
 
@@ -14,4 +11,9 @@ returns : tie.Need-returns
 returns c = search (cut-off, needs)
 
 pub cut-down-spec : {M : Type 1} → statement M
-cut-down-spec = tie.close (tie.spec chosen-requires shifted-requires returns)
+cut-down-spec =
+    tie.close
+    (tie.spec
+    (λ c κs. search needs)
+    shifted-requires
+    returns)

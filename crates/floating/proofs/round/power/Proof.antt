@@ -4,11 +4,12 @@ use Rattle.floating.proofs.Align.{one-shl}
 use Rattle.floating.proofs.round.power.Statement.{statement}
 use Rattle.floating.proofs.round.power.Tie as tie
 
-shl-result : tie.Need-shl-result
-shl-result c = search needs
-
 returns : tie.Need-returns
 returns c = one-shl (c .args .k) (c .pre)
 
 pub power-spec : {M : Type 1} → statement M
-power-spec = tie.close (tie.spec shl-result returns)
+power-spec =
+    tie.close
+    (tie.spec
+    (λ c. search needs)
+    returns)

@@ -9,35 +9,33 @@ use borrow.Author.Needs.{needs}
 use Rattle.floating.proofs.sum.add_common.Statement.{statement}
 use Rattle.floating.proofs.sum.add_common.Tie as tie
 
-sign-of-requires : tie.Need-sign-of-requires
-sign-of-requires c κs = search needs
-
-magnitude-of-requires : tie.Need-magnitude-of-requires
-magnitude-of-requires c κs = search needs
-
-magnitude-of-requires-2 : tie.Need-magnitude-of-requires-2
-magnitude-of-requires-2 c κs = search needs
-
 add-sizes-requires : tie.Need-add-sizes-requires
 add-sizes-requires c κs =
-    let n = none-zero F _ _ (c .before .before .before .pre .1) in
-    let x = magnitude-in _ _ (c .before .magnitude-of .ensures) (n .0) in
+    let first = c .before in
+    let start = first .before .before in
+    let n = none-zero F _ _ (start .pre .1) in
+    let x = magnitude-in _ _ (first .magnitude-of .ensures) (n .0) in
     let y = magnitude-in _ _ (c .magnitude-of2 .ensures) (n .1) in
     (search needs, search needs, x .0, x .1, y .0, y .1)
 
 returns : tie.Need-returns
 returns c =
-    let d = c .before .before .before .before in
-    let a = d .args in
-    let n = none-zero F _ _ (d .pre .1) in
-    c .add-sizes .ensures ∙ ap (answered (a .exc)) (words-combined F F-sound _ (a .a) (a .t) (a .b) _ _ (c .before .before .before .sign-of .ensures) (c .before .before .magnitude-of .ensures) (c .before .magnitude-of2 .ensures) (n .0) (n .1))
+    let second = c .before in
+    let first = second .before in
+    let signed = first .before in
+    let start = signed .before in
+    let a = start .args in
+    let n = none-zero F _ _ (start .pre .1) in
+    let whole =
+    words-combined F F-sound _ (a .a) (a .t) (a .b) _ _ (signed .sign-of .ensures) (first .magnitude-of .ensures) (second .magnitude-of2 .ensures) in
+    c .add-sizes .ensures ∙ ap (answered (a .exc)) (whole (n .0) (n .1))
 
 pub add-common-spec : {M : Type 1} → statement M
 add-common-spec =
     tie.close
     (tie.spec
-    sign-of-requires
-    magnitude-of-requires
-    magnitude-of-requires-2
+    (λ c κs. search needs)
+    (λ c κs. search needs)
+    (λ c κs. search needs)
     add-sizes-requires
     returns)

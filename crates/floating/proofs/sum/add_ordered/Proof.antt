@@ -1,79 +1,63 @@
 -- `floating::sum::add_ordered` meets its contract. Assumes nothing.
 use mathlib.Core.Path.{ap, _∙_}
+use lib.Dec.{lit<, lit≤}
+use Rattle.floating.specs.Format.{F}
 use Rattle.floating.specs.Operations.{answered}
-use Rattle.floating.proofs.Sums.{ordered-asked, ordered-none, ordered-settled}
+use Rattle.floating.proofs.Sums.{ordered-asked, ordered-none, ordered-placed}
 use Rattle.floating.proofs.Refusing.{answer-word}
 use borrow.Author.Needs.{needs}
 use Rattle.floating.proofs.sum.add_ordered.Statement.{statement}
 use Rattle.floating.proofs.sum.add_ordered.Tie as tie
 
-add-wide : tie.Need-add-wide
-add-wide c = search needs
-
-wide-requires : tie.Need-wide-requires
-wide-requires c κs = search needs
-
-add-wide-2 : tie.Need-add-wide-2
-add-wide-2 c = search needs
-
-wide-requires-2 : tie.Need-wide-requires-2
-wide-requires-2 c κs = search needs
-
-wide-requires-3 : tie.Need-wide-requires-3
-wide-requires-3 c κs = search needs
-
-sub-aligned : tie.Need-sub-aligned
-sub-aligned c = search needs
-
 aligned-requires : tie.Need-aligned-requires
-aligned-requires c κs = (search needs, search needs, search needs, search needs, search needs, search (ordered-asked, needs))
+aligned-requires c κs =
+    let b = c .before .wide2 in
+    let before-b = c .before .before in
+    let a = before-b .wide in
+    let told = before-b .before .args in
+    let small = ordered-asked F (told .k) (told .l) (a .result) (b .result) (search needs) (a .ensures) (b .ensures) in
+    (search needs, search needs, search needs, search needs, search needs, small)
 
 returns : tie.Need-returns
 returns c =
     let x = c .before .aligned in
-    let d = c .before .before in
-    let a = d .before .before .before .args in
-    answer-word (a .exc) _ 0 (ordered-none (a .o) (a .k) (a .l) (d .wide3 .result) (d .before .before .wide .result) (d .before .wide2 .result) (x .result) (search needs) (d .wide3 .ensures) (d .before .before .wide .ensures) (d .before .wide2 .ensures) (x .ensures) (a .s) (c .if1 .taken))
-
-zeros-of-requires : tie.Need-zeros-of-requires
-zeros-of-requires c κs = search needs
-
-add-deliver : tie.Need-add-deliver
-add-deliver c = search needs
-
-raised-requires : tie.Need-raised-requires
-raised-requires c κs = search needs
-
-near-of-requires : tie.Need-near-of-requires
-near-of-requires c κs = search needs
-
-deliver-requires : tie.Need-deliver-requires
-deliver-requires c κs = search needs
+    let before-x = c .before .before in
+    let o = before-x .wide3 in
+    let b = before-x .before .wide2 in
+    let before-b = before-x .before .before in
+    let a = before-b .wide in
+    let told = before-b .before .args in
+    answer-word (told .exc) _ 0
+    (ordered-none F (told .k) (told .l) (a .result) (b .result) (search needs) (a .ensures) (b .ensures) (told .o) (o .result) (x .result) (lit< tt)
+    (o .ensures) (x .ensures) (told .s) (c .if1 .taken))
 
 returns-2 : tie.Need-returns-2
 returns-2 c =
-    let z = c .before .before .before .zeros-of in
-    let f = c .before .before .before .before in
-    let x = f .before .aligned in
-    let d = f .before .before in
-    let a = d .before .before .before .args in
-    c .deliver .ensures ∙ ap (answered (a .exc)) (ordered-settled (a .o) (a .k) (a .l) (d .wide3 .result) (d .before .before .wide .result) (d .before .wide2 .result) (x .result) (search needs) (d .wide3 .ensures) (d .before .before .wide .ensures) (d .before .wide2 .ensures) (x .ensures) (a .s) (z .result) (c .before .before .raised .result) (c .before .near-of .result) (f .if1 .left) (z .ensures .1) (z .ensures .2) (c .before .before .raised .ensures) (c .before .near-of .ensures .0))
+    let tested = c .before in
+    let x = tested .before .aligned in
+    let before-x = tested .before .before in
+    let o = before-x .wide3 in
+    let b = before-x .before .wide2 in
+    let before-b = before-x .before .before in
+    let a = before-b .wide in
+    let told = before-b .before .args in
+    let placed =
+    ordered-placed F (told .k) (told .l) (a .result) (b .result) (search needs) (a .ensures) (b .ensures) (told .o) (o .result) (x .result) (lit< tt)
+    (o .ensures) (x .ensures) in
+    c .of-digits .ensures ∙ ap (answered (told .exc)) (placed 64 (told .s) (lit≤ tt) (tested .if1 .left))
 
 pub add-ordered-spec : {M : Type 1} → statement M
 add-ordered-spec =
     tie.close
     (tie.spec
-    add-wide
-    wide-requires
-    add-wide-2
-    wide-requires-2
-    wide-requires-3
-    sub-aligned
+    (λ c. search needs)
+    (λ c κs. search needs)
+    (λ c. search needs)
+    (λ c κs. search needs)
+    (λ c κs. search needs)
+    (λ c. search needs)
     aligned-requires
     returns
-    zeros-of-requires
-    add-deliver
-    raised-requires
-    near-of-requires
-    deliver-requires
+    (λ c. search needs)
+    (λ c κs. search needs)
     returns-2)

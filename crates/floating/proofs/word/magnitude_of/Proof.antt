@@ -5,14 +5,13 @@ use borrow.Author.Needs.{needs}
 use Rattle.floating.proofs.word.magnitude_of.Statement.{statement}
 use Rattle.floating.proofs.word.magnitude_of.Tie as tie
 
-mul-result : tie.Need-mul-result
-mul-result c = search needs
-
-add-result : tie.Need-add-result
-add-result c = search needs
-
 returns : tie.Need-returns
 returns c = magnitude-is (c .args .word) (omega arith)
 
 pub magnitude-of-spec : {M : Type 1} → statement M
-magnitude-of-spec = tie.close (tie.spec mul-result add-result returns)
+magnitude-of-spec =
+    tie.close
+    (tie.spec
+    (λ c. search needs)
+    (λ c. search needs)
+    returns)

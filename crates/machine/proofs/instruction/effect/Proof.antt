@@ -1,60 +1,92 @@
+-- `effect` meets its contract: compares, IOTA, and works that write elements. Assumes nothing.
 use mathlib.Core.Path.{sym, ap, _∙_}
 use Rattle.machine.specs.declared.Effect.{Effect}
-use Rattle.machine.specs.Kind.{kindOf}
-use Rattle.machine.proofs.Values.{valued}
+use Rattle.machine.proofs.Values.{none-written, counted-written, set-written, is-lane, valued}
 use borrow.Author.Needs.{needs}
 use Rattle.machine.proofs.instruction.effect.Statement.{statement}
 use Rattle.machine.proofs.instruction.effect.Tie as tie
 
-is-compare-requires : tie.Need-is-compare-requires
-is-compare-requires c κs = search needs
-
 over-requires : tie.Need-over-requires
-unfolding kindOf
-over-requires c κs = ((search needs, search needs, search needs, search needs), c .before .before .before .pre .1)
+over-requires c κs =
+    let t = c .before in
+    let w = t .before in
+    let s = w .before in
+    ((s .pre .0 .0, search needs, sym (w .writes-mask .ensures) ∙ t .if1 .taken), s .pre .1)
 
 returns : tie.Need-returns
-returns c = λ p e f g. c .over .ensures p f g
-
-matched-requires : tie.Need-matched-requires
-matched-requires c κs = search needs
-
-is-iota-requires : tie.Need-is-iota-requires
-is-iota-requires c κs = search needs
+returns c =
+    let t = c .before .before in
+    let w = t .before in
+    let a = w .before .args in (
+      λ p e f g. c .over .ensures .0 p f g,
+      c .over .ensures .1 ∙ none-written (a .instruction) (a .which) _ (sym (w .writes-mask .ensures) ∙ t .if1 .taken),
+    )
 
 iota-requires : tie.Need-iota-requires
-unfolding kindOf
-iota-requires c κs = (search needs, search needs, search needs, search needs)
+iota-requires c κs =
+    let t = c .before in
+    (search needs, search needs, sym (t .before .in-one-step .ensures) ∙ t .if2 .taken, search needs)
 
 returns-2 : tie.Need-returns-2
-returns-2 c = λ p e f g. c .iota .ensures _ p e f
+returns-2 c =
+    let t = c .before .before in
+    let o = t .before in
+    let k = o .before in
+    let e = k .before in
+    let w = e .before in
+    let s = w .before in
+    let a = s .args in
+    let no-mask = sym (w .writes-mask .ensures) ∙ e .if1 .left in (
+      λ p e f g. c .iota .ensures .0 _ p e f,
+      c .iota .ensures .1 ∙ counted-written (a .instruction) (a .which) _ no-mask (sym (o .in-one-step .ensures) ∙ t .if2 .taken),
+    )
 
 over-requires-2 : tie.Need-over-requires-2
-unfolding kindOf
-over-requires-2 c κs = (search needs, search needs, search needs, search needs, search needs)
-
-noted-requires : tie.Need-noted-requires
-noted-requires c κs = search needs
+over-requires-2 c κs =
+    let t = c .before in
+    let o = t .before in
+    let k = o .before in
+    let e = k .before in
+    let w = e .before in
+    let s = w .before in
+    let a = s .args in
+    let no-mask = sym (w .writes-mask .ensures) ∙ e .if1 .left in
+    let no-iota = sym (o .in-one-step .ensures) ∙ t .if2 .left in
+    (s .pre .0 .0, is-lane (a .instruction) 0 0 no-mask no-iota (s .pre .0 .1), search needs)
 
 returns-3 : tie.Need-returns-3
-returns-3 c = λ p e f g.
-    valued (c .before .before .before .before .before .before .before .before .args .instruction) (c .before .before .before .before .before .before .before .before .args .scalar) (c .before .before .before .before .before .before .before .before .args .which) _ p (rw f (search needs)) (sym (c .before .before .before .before .before .before .before .is-compare .ensures) ∙ c .before .before .before .before .before .before .if1 .left) (sym (c .before .before .before .before .is-iota .ensures) ∙ c .before .before .before .if2 .left) _ (c .before .over2 .result) (c .noted .result)
-    (rw (f, ← (c .before .before .before .before .before .matched .ensures)) (c .before .over2 .ensures))
-    (ap (λ (d : Effect). d .vmr) (c .noted .ensures) ∙ sym f)
-    (ap (λ (d : Effect). d .vcr) (c .noted .ensures) ∙ sym g)
-    (ap (λ (d : Effect). d .notes) (c .noted .ensures))
+returns-3 c =
+    let l = c .before in
+    let t = l .before .before in
+    let o = t .before in
+    let k = o .before in
+    let e = k .before in
+    let w = e .before in
+    let s = w .before in
+    let a = s .args in
+    let no-mask = sym (w .writes-mask .ensures) ∙ e .if1 .left in
+    let no-iota = sym (o .in-one-step .ensures) ∙ t .if2 .left in
+    let n = c .noted .ensures in (
+      λ p e f g.
+          valued (a .instruction) (a .scalar) (a .which) _ p (rw f (search needs)) no-mask no-iota _ _ (c .noted .result)
+          (rw (f, ← (k .matched .ensures)) (l .over2 .ensures))
+          (ap (λ (d : Effect). d .vmr) n ∙ sym f)
+          (ap (λ (d : Effect). d .vcr) n ∙ sym g)
+          (ap (λ (d : Effect). d .notes) n),
+      ap (λ (d : Effect). d .wrote) n ∙ set-written (a .instruction) (a .which) _ no-mask no-iota,
+    )
 
 pub effect-spec : {M : Type 1} → statement M
 effect-spec =
     tie.close
     (tie.spec
-    is-compare-requires
+    (λ c κs. search needs)
     over-requires
     returns
-    matched-requires
-    is-iota-requires
+    (λ c κs. search needs)
+    (λ c κs. search needs)
     iota-requires
     returns-2
     over-requires-2
-    noted-requires
+    (λ c κs. search needs)
     returns-3)

@@ -5,14 +5,13 @@ use borrow.Author.Needs.{needs}
 use Rattle.machine.proofs.instruction.register_bit.Statement.{statement}
 use Rattle.machine.proofs.instruction.register_bit.Tie as tie
 
-add-result : tie.Need-add-result
-add-result c = search needs
-
-shl-result : tie.Need-shl-result
-shl-result c = search needs
-
 returns : tie.Need-returns
 returns c = one-shifted (16 + c .before .args .register .0) 64 (omega arith)
 
 pub register-bit-spec : {M : Type 1} → statement M
-register-bit-spec = tie.close (tie.spec add-result shl-result returns)
+register-bit-spec =
+    tie.close
+    (tie.spec
+    (λ c. search needs)
+    (λ c. search needs)
+    returns)

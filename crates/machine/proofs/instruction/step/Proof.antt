@@ -1,58 +1,65 @@
+-- `step` meets its contract: IOTA's one step, an element that is not operated on, and one that is. Assumes nothing.
 use mathlib.Core.Path.{refl, sym, ap, _∙_}
-use borrow.Author.Needs.{needs}
 use borrow.Author.Tests.{not-true, not-false}
 use Rattle.numbers.proofs.Sets.{bit-none}
 use Rattle.numbers.proofs.Tests.{true-not-false}
 use Rattle.machine.specs.Run.{run}
 use Rattle.machine.proofs.Chosen.{taken, kept, iota-done}
+use borrow.Author.Needs.{needs}
 use Rattle.machine.proofs.instruction.step.Statement.{statement}
 use Rattle.machine.proofs.instruction.step.Tie as tie
 
-is-iota-requires : tie.Need-is-iota-requires
-is-iota-requires c κs = search needs
-
 effect-requires : tie.Need-effect-requires
-effect-requires c κs = ((search needs, search needs, search needs, search needs), λ j e. absurd (true-not-false (sym (bit-none j) ∙ e)))
-
-effected-requires : tie.Need-effected-requires
-effected-requires c κs = search needs
+effect-requires c κs =
+    let s = c .before .before .before in
+    ((s .pre .0, s .pre .1, s .pre .2), λ j e. absurd (true-not-false (sym (bit-none j) ∙ e)))
 
 returns : tie.Need-returns
-returns c = ap (run _) (c .effected .ensures) ∙ c .before .effect .ensures _ refl refl refl ∙ iota-done _ _ _ _ _ (sym (c .before .before .before .before .is-iota .ensures) ∙ c .before .before .before .if1 .taken)
-
-operated-requires : tie.Need-operated-requires
-operated-requires c κs = search needs
-
-bit-requires : tie.Need-bit-requires
-bit-requires c κs = search needs
+returns c =
+    let e = c .before in
+    let t = e .before .before in
+    ap (run _) (c .effected .ensures) ∙ e .effect .ensures .0 _ refl refl refl ∙ iota-done _ _ _ _ _ (sym (t .before .in-one-step .ensures) ∙ t .if1 .taken)
 
 returns-2 : tie.Need-returns-2
 returns-2 c =
-    kept _ _ _ _ (c .before .before .before .before .before .pre .3) (c .before .before .operated .ensures) _ (sym (c .before .before .before .before .is-iota .ensures) ∙ c .before .before .before .if1 .left) (sym (c .before .bit .ensures) ∙ not-true _ (c .if2 .taken))
+    let b = c .before in
+    let o = b .before in
+    let t = o .before in
+    let k = t .before in
+    let s = k .before in
+    kept _ _ _ _ (s .pre .2) (o .operated .ensures) _ (sym (k .in-one-step .ensures) ∙ t .if1 .left) (sym (b .bit .ensures) ∙ not-true _ (c .if2 .taken))
 
 one-requires : tie.Need-one-requires
-one-requires c κs = (search needs, search needs, search needs, search needs, sym (c .before .before .before .before .before .is-iota .ensures) ∙ c .before .before .before .before .if1 .left)
-
-effected-requires-2 : tie.Need-effected-requires-2
-effected-requires-2 c κs = search needs
+one-requires c κs =
+    let t = c .before .before .before .before in
+    let k = t .before in
+    let s = k .before in
+    (s .pre .0, s .pre .1, s .pre .3, sym (k .in-one-step .ensures) ∙ t .if1 .left)
 
 returns-3 : tie.Need-returns-3
 returns-3 c =
+    let d = c .before in
+    let l = d .before .before in
+    let b = l .before in
+    let o = b .before in
+    let t = o .before in
+    let k = t .before in
+    let s = k .before in
     ap (run _) (c .effected2 .ensures)
-    ∙ c .before .one .ensures _ refl refl
-    ∙ taken _ _ _ _ (c .before .before .before .before .before .before .before .before .pre .3) (c .before .before .before .before .before .operated .ensures) _ (sym (c .before .before .before .before .before .before .before .is-iota .ensures) ∙ c .before .before .before .before .before .before .if1 .left) (sym (c .before .before .before .before .bit .ensures) ∙ not-false _ (c .before .before .before .if2 .left))
+    ∙ d .one .ensures .0 _ refl refl
+    ∙ taken _ _ _ _ (s .pre .2) (o .operated .ensures) _ (sym (k .in-one-step .ensures) ∙ t .if1 .left) (sym (b .bit .ensures) ∙ not-false _ (l .if2 .left))
 
 pub step-spec : {M : Type 1} → statement M
 step-spec =
     tie.close
     (tie.spec
-    is-iota-requires
+    (λ c κs. search needs)
     effect-requires
-    effected-requires
+    (λ c κs. search needs)
     returns
-    operated-requires
-    bit-requires
+    (λ c κs. search needs)
+    (λ c κs. search needs)
     returns-2
     one-requires
-    effected-requires-2
+    (λ c κs. search needs)
     returns-3)

@@ -7,8 +7,9 @@ use Rattle.machine.proofs.iota.count.Tie as tie
 cast-result : tie.Need-cast-result
 cast-result c = omega (arith, ones-le 64 (c .args .which) (search needs))
 
-returns : tie.Need-returns
-returns c = search needs
-
 pub count-spec : {M : Type 1} → statement M
-count-spec = tie.close (tie.spec cast-result returns)
+count-spec =
+    tie.close
+    (tie.spec
+    cast-result
+    (λ c. search needs))

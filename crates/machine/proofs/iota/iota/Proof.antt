@@ -1,29 +1,38 @@
+-- `iota` meets its contract. Assumes nothing.
+use Rattle.machine.proofs.IotaLaws.{stepped, count-short}
+use Rattle.numbers.specs.Working.{lowBits}
 use mathlib.Core.Path.{refl, sym, ap, _∙_}
-use Rattle.numbers.specs.Bits.{lowBits}
-use Rattle.machine.proofs.IotaLaws.{stepped}
 use borrow.Author.Needs.{needs}
 use Rattle.machine.proofs.iota.iota.Statement.{statement}
 use Rattle.machine.proofs.iota.iota.Tie as tie
 
-low-bits-requires : tie.Need-low-bits-requires
-low-bits-requires c κs = search needs
-
-cast-low : tie.Need-cast-low
-cast-low c = search needs
-
-cast-t12 : tie.Need-cast-t12
-cast-t12 c = search needs
-
-walk-requires : tie.Need-walk-requires
-walk-requires c κs = search needs
-
-count-requires : tie.Need-count-requires
-count-requires c κs = search needs
+low-bits-requires-2 : tie.Need-low-bits-requires-2
+low-bits-requires-2 c κs =
+    let w = c .before in
+    let l = w .before .before .before in
+    let s = l .before in
+    count-short (s .args .vmr) (s .args .instruction .mtf) (s .args .vlr) (s .args .mask) _ _ (search needs) (s .pre .1) (s .pre .3) (l .low-bits .ensures) (c .count .ensures)
 
 returns : tie.Need-returns
-returns c = λ which p e f.
-    stepped _ _ _ which _ _ p _ _ _ (c .before .before .before .before .before .pre .2) (rw f (search needs)) (rw e (search needs)) (rw (e, f) (c .before .before .before .before .low-bits .ensures ∙ ap (λ m. lowBits m (c .before .before .before .before .before .args .vlr)) (c .before .before .before .before .before .pre .3))) refl (c .before .walk .ensures) (sym f) (c .count .ensures) refl
+returns c =
+    let w = c .before .before in
+    let l = w .before .before .before in
+    let s = l .before in
+    let a = s .args in (
+      λ which p e f.
+          stepped (a .instruction) (a .stride) _ which _ _ p _ _ (record { vmr = _; vcr = _; notes = 0; wrote = 0 }) (s .pre .2) (rw f (search needs)) (rw e (search needs))
+          (rw (e, f) (l .low-bits .ensures ∙ ap (λ m. lowBits m (a .vlr)) (s .pre .3))) (search needs) (w .walk .ensures) (sym f) (c .before .count .ensures) refl,
+      c .low-bits2 .ensures,
+    )
 
 pub iota-spec : {M : Type 1} → statement M
 iota-spec =
-    tie.close (tie.spec low-bits-requires cast-low cast-t12 walk-requires count-requires returns)
+    tie.close
+    (tie.spec
+    (λ c κs. search needs)
+    (λ c. search needs)
+    (λ c. search needs)
+    (λ c κs. search needs)
+    (λ c κs. search needs)
+    low-bits-requires-2
+    returns)

@@ -13,17 +13,11 @@ abbrev μ-loop : tie.MeasureT-loop
 loop-holds : tie.Need-loop-holds Inv-loop μ-loop
 loop-holds c = search (begins, needs)
 
-lowest-requires : tie.Need-lowest-requires Inv-loop μ-loop
-lowest-requires c κs = search needs
-
 turn-requires : tie.Need-turn-requires Inv-loop μ-loop
 turn-requires c κs = let b = inside _ _ _ _ _ _ _ (c .before .before .before .loop .inv) _ (omega arith) (c .before .before .before .loop .inv .0 .small) (c .lowest .ensures) in let n = has-room _ _ _ _ _ _ _ (c .before .before .before .loop .inv) _ (omega arith) (c .before .before .before .loop .inv .0 .small) (c .lowest .ensures) in search needs
 
 add-next : tie.Need-add-next Inv-loop μ-loop
 add-next c = let n = has-room _ _ _ _ _ _ _ (c .before .before .before .before .loop .inv) _ (omega arith) (c .before .before .before .before .loop .inv .0 .small) (c .before .lowest .ensures) in search needs
-
-without-lowest-requires : tie.Need-without-lowest-requires Inv-loop μ-loop
-without-lowest-requires c κs = search needs
 
 loop-less : tie.Need-loop-less Inv-loop μ-loop
 loop-less c = fewer _ _ _ _ _ _ _ (c .before .before .before .before .before .loop .inv) _ (omega arith) (c .before .before .before .before .before .loop .inv .0 .small) (c .before .before .lowest .ensures) _ (c .without-lowest .ensures)
@@ -41,10 +35,10 @@ walk-spec =
     Inv-loop
     μ-loop
     loop-holds
-    lowest-requires
+    (λ c κs. search needs)
     turn-requires
     add-next
-    without-lowest-requires
+    (λ c κs. search needs)
     loop-less
     loop-again
     returns)

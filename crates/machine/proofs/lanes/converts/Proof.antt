@@ -1,33 +1,39 @@
-use borrow.Author.Needs.{needs}
+-- `converts` meets its contract. Assumes nothing.
+use Rattle.machine.specs.Working.{lanes, laneOf, converting}
 use native.Mathlib.Omega.{arith}
+use borrow.Author.Needs.{needs}
 use Rattle.numbers.proofs.SetBits.{Walk, starts-walk, ends-walk, index-below, less-left, turns-walk}
-use Rattle.machine.specs.Loops.{lanes, laneWorked, convertAt}
 use Rattle.machine.proofs.lanes.converts.Statement.{statement}
 use Rattle.machine.proofs.lanes.converts.Tie as tie
 
 abbrev Inv-loop : tie.InvT-loop
-Inv-loop elements₀ exc conversion vb vc which types₀ left₀ elements types left = Walk (laneWorked (convertAt exc conversion) 0 (vb .0) (vc .0)) which 64 (lanes elements₀ 0) left (lanes elements types)
+Inv-loop elements₀ conversion instruction which types₀ left₀ elements types left =
+    Walk (laneOf (converting (instruction .exc) conversion) instruction 0) which 64 (lanes elements₀ 0) left (lanes elements types)
 
 abbrev μ-loop : tie.MeasureT-loop
-μ-loop elements₀ exc conversion vb vc which types₀ left₀ elements types left = left
+μ-loop elements₀ conversion instruction which types₀ left₀ elements types left = left
 
 loop-holds : tie.Need-loop-holds Inv-loop μ-loop
 loop-holds c = search (starts-walk, needs)
 
-lowest-requires : tie.Need-lowest-requires Inv-loop μ-loop
-lowest-requires c κs = search needs
-
 convert-requires : tie.Need-convert-requires Inv-loop μ-loop
-convert-requires c κs = let b = index-below _ _ _ _ _ _ (c .before .before .before .loop .inv) (omega arith) (c .before .before .before .loop .inv .small) _ (c .before .lowest .ensures) in search needs
-
-without-lowest-requires : tie.Need-without-lowest-requires Inv-loop μ-loop
-without-lowest-requires c κs = search needs
+convert-requires c κs =
+    let l = c .before in
+    let v = l .before .before .loop .inv in
+    let b = index-below _ _ _ _ _ _ v (omega arith) (v .small) _ (l .lowest .ensures) in
+    search needs
 
 loop-less : tie.Need-loop-less Inv-loop μ-loop
-loop-less c = less-left _ _ _ _ _ _ (c .before .before .before .before .before .loop .inv) (omega arith) (c .before .before .before .before .before .loop .inv .small) _ (c .before .before .before .lowest .ensures) _ (c .without-lowest .ensures)
+loop-less c =
+    let l = c .before .before .before in
+    let v = l .before .before .loop .inv in
+    less-left _ _ _ _ _ _ v (omega arith) (v .small) _ (l .lowest .ensures) _ (c .without-lowest .ensures)
 
 loop-again : tie.Need-loop-again Inv-loop μ-loop
-loop-again c = turns-walk _ _ _ _ _ _ (c .before .before .before .before .before .loop .inv) (omega arith) (c .before .before .before .before .before .loop .inv .small) _ (c .before .before .before .lowest .ensures) _ (c .without-lowest .ensures) _ (c .before .convert .ensures)
+loop-again c =
+    let l = c .before .before .before in
+    let v = l .before .before .loop .inv in
+    turns-walk _ _ _ _ _ _ v (omega arith) (v .small) _ (l .lowest .ensures) _ (c .without-lowest .ensures) _ (c .before .convert .ensures)
 
 returns : tie.Need-returns Inv-loop μ-loop
 returns c = ends-walk _ _ _ _ _ _ (c .before .loop .inv) (c .loop-test .left)
@@ -39,9 +45,9 @@ converts-spec =
     Inv-loop
     μ-loop
     loop-holds
-    lowest-requires
+    (λ c κs. search needs)
     convert-requires
-    without-lowest-requires
+    (λ c κs. search needs)
     loop-less
     loop-again
     returns)

@@ -1,19 +1,19 @@
-use borrow.Author.Needs.{needs}
+-- `products` meets its contract. Assumes nothing.
 use Rattle.machine.proofs.LaneLoops.{by-scalar, by-register}
+use borrow.Author.Needs.{needs}
 use Rattle.machine.proofs.lanes.products.Statement.{statement}
 use Rattle.machine.proofs.lanes.products.Tie as tie
 
-scalar-products-requires : tie.Need-scalar-products-requires
-scalar-products-requires c κs = search needs
-
 returns : tie.Need-returns
-returns c = rw (c .before .before .if1 .taken) (by-scalar _ _ _ _ _ _ _ _ (c .scalar-products .ensures))
-
-register-products-requires : tie.Need-register-products-requires
-register-products-requires c κs = search needs
+returns c = by-scalar _ _ _ _ _ _ _ (c .before .before .if1 .taken) (c .scalar-products .ensures)
 
 returns-2 : tie.Need-returns-2
-returns-2 c = rw (c .before .before .if1 .left) (by-register _ _ _ _ _ _ _ _ (c .register-products .ensures))
+returns-2 c = by-register _ _ _ _ _ _ _ (c .before .before .if1 .left) (c .register-products .ensures)
 
 pub products-spec : {M : Type 1} → statement M
-products-spec = tie.close (tie.spec scalar-products-requires returns register-products-requires returns-2)
+products-spec =
+    tie.close (tie.spec
+    (λ c κs. search needs)
+    returns
+    (λ c κs. search needs)
+    returns-2)

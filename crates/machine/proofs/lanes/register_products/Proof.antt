@@ -1,61 +1,69 @@
+-- `register_products` meets its contract. Assumes nothing.
+use Rattle.machine.proofs.LaneLoops.{lands, takes}
+use Rattle.machine.specs.Working.{lanes, laneIn, plainly}
+use Rattle.element.specs.Working.{productWork}
+use mathlib.Core.Bool.{false}
+use mathlib.Core.Path.{refl}
 use native.Mathlib.Omega.{arith}
 use borrow.Author.Needs.{needs}
 use Rattle.numbers.proofs.SetBits.{Walk, starts-walk, ends-walk, index-below, less-left, turns-walk}
-use Rattle.machine.specs.Loops.{lanes, laneRegister, productAt}
-use Rattle.machine.proofs.LaneLoops.{of-given, of-register}
 use Rattle.machine.proofs.lanes.register_products.Statement.{statement}
 use Rattle.machine.proofs.lanes.register_products.Tie as tie
 
 abbrev Inv-loop : tie.InvT-loop
-Inv-loop elements₀ divide exc va vb vc which types₀ left₀ elements types left =
-    Walk (laneRegister (productAt divide exc) (va .0) (vb .0) (vc .0)) which 64 (lanes elements₀ 0) left (lanes elements types)
+Inv-loop elements₀ divide instruction which types₀ left₀ elements types left =
+    Walk (laneIn false (plainly (productWork divide) (instruction .exc) false) instruction 0) which 64 (lanes elements₀ 0) left (lanes elements types)
 
 abbrev μ-loop : tie.MeasureT-loop
-μ-loop elements₀ divide exc va vb vc which types₀ left₀ elements types left = left
+μ-loop elements₀ divide instruction which types₀ left₀ elements types left = left
 
 loop-holds : tie.Need-loop-holds Inv-loop μ-loop
 loop-holds c = search (starts-walk, needs)
 
-lowest-requires : tie.Need-lowest-requires Inv-loop μ-loop
-lowest-requires c κs = search needs
-
-element-of-requires : tie.Need-element-of-requires Inv-loop μ-loop
-element-of-requires c κs =
-    let v = c .before .before .before .loop .inv in
-    let b = index-below _ _ _ _ _ _ v (omega arith) (v .small) _ (c .before .lowest .ensures) in
+va-of-requires : tie.Need-va-of-requires Inv-loop μ-loop
+va-of-requires c κs =
+    let at : tie.At-loop Inv-loop μ-loop = search needs in
+    let l : tie.After-lowest Inv-loop μ-loop = search needs in
+    let v = at .loop .inv in
+    let b = index-below _ _ _ _ _ _ v (omega arith) (v .small) _ (l .lowest .ensures) in
     search needs
 
-element-of-requires-2 : tie.Need-element-of-requires-2 Inv-loop μ-loop
-element-of-requires-2 c κs =
-    let l = c .before .before in
-    let v = l .before .before .before .loop .inv in
-    let b = index-below _ _ _ _ _ _ v (omega arith) (v .small) _ (l .before .lowest .ensures) in
+vb-of-requires : tie.Need-vb-of-requires Inv-loop μ-loop
+vb-of-requires c κs =
+    let at : tie.At-loop Inv-loop μ-loop = search needs in
+    let l : tie.After-lowest Inv-loop μ-loop = search needs in
+    let v = at .loop .inv in
+    let b = index-below _ _ _ _ _ _ v (omega arith) (v .small) _ (l .lowest .ensures) in
     search needs
 
 product-requires : tie.Need-product-requires Inv-loop μ-loop
 product-requires c κs =
-    let l = c .before .before .before .before in
-    let v = l .before .before .before .loop .inv in
-    let b = index-below _ _ _ _ _ _ v (omega arith) (v .small) _ (l .before .lowest .ensures) in
+    let at : tie.At-loop Inv-loop μ-loop = search needs in
+    let l : tie.After-lowest Inv-loop μ-loop = search needs in
+    let v = at .loop .inv in
+    let b = index-below _ _ _ _ _ _ v (omega arith) (v .small) _ (l .lowest .ensures) in
     search needs
-
-without-lowest-requires : tie.Need-without-lowest-requires Inv-loop μ-loop
-without-lowest-requires c κs = search needs
 
 loop-less : tie.Need-loop-less Inv-loop μ-loop
 loop-less c =
-    let l = c .before .before .before .before .before .before .before in
-    let v = l .before .before .loop .inv in
+    let at : tie.At-loop Inv-loop μ-loop = search needs in
+    let l : tie.After-lowest Inv-loop μ-loop = search needs in
+    let v = at .loop .inv in
     less-left _ _ _ _ _ _ v (omega arith) (v .small) _ (l .lowest .ensures) _ (c .without-lowest .ensures)
 
 loop-again : tie.Need-loop-again Inv-loop μ-loop
 loop-again c =
-    let l = c .before .before .before .before .before .before .before in
-    let v = l .before .before .loop .inv in
-    let a = c .before .before .before .before .before .element-of .ensures in
-    let b = c .before .before .before .element-of2 .ensures in
-    let turn = of-register _ _ _ _ _ _ _ _ a (of-given _ _ _ _ _ _ _ _ b (c .before .product .ensures)) in
-    turns-walk _ _ _ _ _ _ v (omega arith) (v .small) _ (l .lowest .ensures) _ (c .without-lowest .ensures) _ turn
+    let at : tie.At-loop Inv-loop μ-loop = search needs in
+    let l : tie.After-lowest Inv-loop μ-loop = search needs in
+    let v = at .loop .inv in
+    let x : tie.After-va-of Inv-loop μ-loop = search needs in
+    let z : tie.After-vb-of Inv-loop μ-loop = search needs in
+    let s : tie.Start Inv-loop μ-loop = search needs in
+    let a = s .args in
+    let w = plainly (productWork (a .divide)) (a .instruction .exc) false in
+    turns-walk _ _ _ _ _ _ v (omega arith) (v .small) _ (l .lowest .ensures) _ (c .without-lowest .ensures) _
+    (takes w false (a .instruction) 0 _ _ _ _ (x .va-of .ensures)
+    (lands w (a .instruction) _ _ _ _ _ _ _ (z .vb-of .ensures) refl refl (c .before .product .ensures)))
 
 returns : tie.Need-returns Inv-loop μ-loop
 returns c = ends-walk _ _ _ _ _ _ (c .before .loop .inv) (c .loop-test .left)
@@ -67,11 +75,12 @@ register-products-spec =
     Inv-loop
     μ-loop
     loop-holds
-    lowest-requires
-    element-of-requires
-    element-of-requires-2
+    (λ c κs. search needs)
+    va-of-requires
+    vb-of-requires
+    (λ c. search needs)
     product-requires
-    without-lowest-requires
+    (λ c κs. search needs)
     loop-less
     loop-again
     returns)

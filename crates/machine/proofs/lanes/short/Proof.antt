@@ -1,22 +1,23 @@
+-- `short` meets its contract. Assumes nothing.
 use Rattle.machine.proofs.LaneLoops.{lands}
 use borrow.Author.Needs.{needs}
 use Rattle.machine.proofs.lanes.short.Statement.{statement}
 use Rattle.machine.proofs.lanes.short.Tie as tie
 
-element-of-requires : tie.Need-element-of-requires
-element-of-requires c κs = search needs
-
-element-of-requires-2 : tie.Need-element-of-requires-2
-element-of-requires-2 c κs = search needs
-
-short-requires : tie.Need-short-requires
-short-requires c κs = search needs
-
-land-requires : tie.Need-land-requires
-land-requires c κs = search needs
-
 returns : tie.Need-returns
-returns c = lands _ _ _ _ _ _ _ _ _ _ (c .before .before .before .before .before .element-of .ensures) (c .before .before .before .element-of2 .ensures) (c .before .short .ensures) (c .land .ensures)
+returns c =
+    let z : tie.After-vc-of = search needs in
+    let b : tie.After-vb-of = search needs in
+    let o : tie.After-short = search needs in
+    lands _ _ _ _ _ _ _ _ _ (b .vb-of .ensures) (z .vc-of .ensures) (o .short .ensures) (c .land .ensures)
 
 pub short-spec : {M : Type 1} → statement M
-short-spec = tie.close (tie.spec element-of-requires element-of-requires-2 short-requires land-requires returns)
+short-spec =
+    tie.close
+    (tie.spec
+    (λ c κs. search needs)
+    (λ c κs. search needs)
+    (λ c κs. search needs)
+    (λ c. search needs)
+    (λ c κs. search needs)
+    returns)

@@ -1,55 +1,45 @@
-use mathlib.Core.Path.{sym}
+-- `over` meets its contract. Assumes nothing.
+use Rattle.machine.proofs.Compares.{is-compare, compared}
 use borrow.Author.Tests.{eq-eqb, ne-eqb}
-use Rattle.machine.proofs.Compares.{compared}
+use mathlib.Core.Path.{refl, sym}
 use borrow.Author.Needs.{needs}
 use Rattle.machine.proofs.mask.over.Statement.{statement}
 use Rattle.machine.proofs.mask.over.Tie as tie
 
-code-requires : tie.Need-code-requires
-code-requires c κs = search needs
-
-cast-either : tie.Need-cast-either
-cast-either c = search needs
-
-cast-t20 : tie.Need-cast-t20
-cast-t20 c = search needs
-
-cast-t23 : tie.Need-cast-t23
-cast-t23 c = search needs
-
 either-requires : tie.Need-either-requires
-either-requires c κs = search needs
-
-replaced-requires : tie.Need-replaced-requires
-replaced-requires c κs = search needs
+either-requires c κs =
+    (is-compare (c .args .instruction) (search needs) (c .pre .0 .2), c .pre .0 .0, c .pre .0 .1)
 
 returns : tie.Need-returns
-returns c = λ p e f.
-    compared (c .before .before .before .before .args .instruction) (c .before .before .before .before .args .x) (c .before .before .before .before .args .which) _ p (c .before .before .before .before .pre .0 .3) (c .before .before .before .before .args .n) (c .before .before .either .result .found) (c .before .before .either .result .refused) _ (c .before .before .before .before .pre .0 .2) (c .before .before .before .before .pre .1)
-    (rw (← (c .before .before .before .code .ensures)) (c .before .before .either .ensures .0))
-    (rw (← (c .before .before .before .code .ensures)) (c .before .before .either .ensures .1))
-    (λ k. rw e (c .before .replaced .ensures k))
-    (sym f)
-    (rw (eq-eqb _ _ (c .if1 .taken)))
+returns c =
+    let s = c .before .before .before in
+    let a = s .args in
+    let m = c .before .before .either in (
+      λ p e f.
+          compared (a .instruction) (a .x) (a .which) _ p (search needs) (s .pre .0 .2) (a .n) (m .result .found) (m .result .refused) (record { vmr = _; vcr = _; notes = _; wrote = 0 })
+          (s .pre .0 .1) (s .pre .1)
+          (m .ensures .0) (m .ensures .1) (λ k. rw e (c .before .replaced .ensures k)) (sym f) (rw (eq-eqb _ _ (c .if1 .taken))),
+      refl,
+    )
 
 returns-2 : tie.Need-returns-2
-returns-2 c = λ p e f.
-    compared (c .before .before .before .before .args .instruction) (c .before .before .before .before .args .x) (c .before .before .before .before .args .which) _ p (c .before .before .before .before .pre .0 .3) (c .before .before .before .before .args .n) (c .before .before .either .result .found) (c .before .before .either .result .refused) _ (c .before .before .before .before .pre .0 .2) (c .before .before .before .before .pre .1)
-    (rw (← (c .before .before .before .code .ensures)) (c .before .before .either .ensures .0))
-    (rw (← (c .before .before .before .code .ensures)) (c .before .before .either .ensures .1))
-    (λ k. rw e (c .before .replaced .ensures k))
-    (sym f)
-    (rw (ne-eqb _ _ (c .if1 .left)))
+returns-2 c =
+    let s = c .before .before .before in
+    let a = s .args in
+    let m = c .before .before .either in (
+      λ p e f.
+          compared (a .instruction) (a .x) (a .which) _ p (search needs) (s .pre .0 .2) (a .n) (m .result .found) (m .result .refused) (record { vmr = _; vcr = _; notes = _; wrote = 0 })
+          (s .pre .0 .1) (s .pre .1)
+          (m .ensures .0) (m .ensures .1) (λ k. rw e (c .before .replaced .ensures k)) (sym f) (rw (ne-eqb _ _ (c .if1 .left))),
+      refl,
+    )
 
 pub over-spec : {M : Type 1} → statement M
 over-spec =
     tie.close
     (tie.spec
-    code-requires
-    cast-either
-    cast-t20
-    cast-t23
+    (λ c. search needs)
     either-requires
-    replaced-requires
+    (λ c κs. search needs)
     returns
     returns-2)

@@ -2,17 +2,14 @@ use borrow.Author.Needs.{needs}
 use Rattle.machine.proofs.operand.element_of.Statement.{statement}
 use Rattle.machine.proofs.operand.element_of.Tie as tie
 
-place-requires : tie.Need-place-requires
-place-requires c κs = search needs
-
-mul-result : tie.Need-mul-result
-mul-result c = search needs
-
-element-copy-out-result : tie.Need-element-copy-out-result
-element-copy-out-result c = search needs
-
 returns : tie.Need-returns
 returns c = rw (c .before .place .ensures)
 
 pub element-of-spec : {M : Type 1} → statement M
-element-of-spec = tie.close (tie.spec place-requires mul-result element-copy-out-result returns)
+element-of-spec =
+    tie.close
+    (tie.spec
+    (λ c κs. search needs)
+    (λ c. search needs)
+    (λ c. search needs)
+    returns)

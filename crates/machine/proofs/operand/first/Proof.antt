@@ -1,15 +1,18 @@
+-- `first` meets its contract. Assumes nothing.
 use borrow.Author.Needs.{needs}
 use Rattle.machine.proofs.operand.first.Statement.{statement}
 use Rattle.machine.proofs.operand.first.Tie as tie
 
-element-of-requires : tie.Need-element-of-requires
-element-of-requires c κs = search needs
-
 returns : tie.Need-returns
-returns c = search needs
+returns c = rw (c .if1 .taken)
 
 returns-2 : tie.Need-returns-2
-returns-2 c = rw (c .if1 .left) (c .before .element-of .ensures)
+returns-2 c = rw (c .if1 .left) (c .before .va-of .ensures)
 
 pub first-spec : {M : Type 1} → statement M
-first-spec = tie.close (tie.spec element-of-requires returns returns-2)
+first-spec =
+    tie.close
+    (tie.spec
+    (λ c κs. search needs)
+    returns
+    returns-2)

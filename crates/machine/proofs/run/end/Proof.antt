@@ -1,13 +1,8 @@
+-- `end` meets its contract. Assumes nothing.
 use Rattle.machine.specs.Run.{ended}
 use borrow.Author.Needs.{needs}
 use Rattle.machine.proofs.run.end.Statement.{statement}
 use Rattle.machine.proofs.run.end.Tie as tie
-
-with-bit-requires : tie.Need-with-bit-requires
-with-bit-requires c κs = search needs
-
-with-bit-requires-2 : tie.Need-with-bit-requires-2
-with-bit-requires-2 c κs = search needs
 
 returns : tie.Need-returns
 unfolding ended
@@ -18,4 +13,10 @@ unfolding ended
 returns-2 c = rw (c .if1 .left)
 
 pub end-spec : {M : Type 1} → statement M
-end-spec = tie.close (tie.spec with-bit-requires with-bit-requires-2 returns returns-2)
+end-spec =
+    tie.close
+    (tie.spec
+    (λ c κs. search needs)
+    (λ c κs. search needs)
+    returns
+    returns-2)

@@ -1,10 +1,11 @@
+-- `gather` meets its contract. Assumes nothing.
+use Rattle.machine.specs.Run.{joined}
 use mathlib.Core.Path.{refl}
-use Rattle.machine.specs.Run.{gathered}
 use Rattle.machine.proofs.run.gather.Statement.{statement}
 use Rattle.machine.proofs.run.gather.Tie as tie
 
 returns : tie.Need-returns
-unfolding gathered
+unfolding joined
 returns c = refl
 
 pub gather-spec : {M : Type 1} → statement M

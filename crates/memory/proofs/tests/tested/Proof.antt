@@ -4,23 +4,16 @@ use borrow.Author.Needs.{needs}
 use Rattle.memory.proofs.tests.tested.Statement.{statement}
 use Rattle.memory.proofs.tests.tested.Tie as tie
 
-all-at-once-requires : tie.Need-all-at-once-requires
-all-at-once-requires c κs = search needs
-
 returns : tie.Need-returns
 returns c =
+    let start : tie.Start = search needs in
     let all = c .before .all-at-once .ensures .1 (c .if1 .taken) in
-    none-bad _ _ _ _ _ _ _ (c .before .before .before .pre .2) (all .0) (all .1)
-
-add-search : tie.Need-add-search
-add-search c = search needs
-
-search-requires : tie.Need-search-requires
-search-requires c κs = search needs
-
-returns-2 : tie.Need-returns-2
-returns-2 c = search needs
+    none-bad _ _ _ _ _ _ (start .pre .2) (all .0) (all .1)
 
 pub tested-spec : {M : Type 1} → statement M
 tested-spec =
-    tie.close (tie.spec all-at-once-requires returns add-search search-requires returns-2)
+    tie.close (tie.spec
+    (λ c κs. search needs)
+    returns
+    (λ c κs. search needs)
+    (λ c. search needs))

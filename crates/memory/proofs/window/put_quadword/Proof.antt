@@ -7,57 +7,6 @@ use borrow.Author.Needs.{needs}
 use Rattle.memory.proofs.window.put_quadword.Statement.{statement}
 use Rattle.memory.proofs.window.put_quadword.Tie as tie
 
-cast-part : tie.Need-cast-part
-cast-part c = search needs
-
-slice-write-part : tie.Need-slice-write-part
-slice-write-part c = search needs
-
-cast-part-2 : tie.Need-cast-part-2
-cast-part-2 c = search needs
-
-slice-write-part-2 : tie.Need-slice-write-part-2
-slice-write-part-2 c = search needs
-
-cast-part-3 : tie.Need-cast-part-3
-cast-part-3 c = search needs
-
-slice-write-part-3 : tie.Need-slice-write-part-3
-slice-write-part-3 c = search needs
-
-cast-part-4 : tie.Need-cast-part-4
-cast-part-4 c = search needs
-
-slice-write-part-4 : tie.Need-slice-write-part-4
-slice-write-part-4 c = search needs
-
-cast-part-5 : tie.Need-cast-part-5
-cast-part-5 c = search needs
-
-slice-write-part-5 : tie.Need-slice-write-part-5
-slice-write-part-5 c = simp length-set (omega arith)
-
-cast-part-6 : tie.Need-cast-part-6
-cast-part-6 c = search needs
-
-slice-write-part-6 : tie.Need-slice-write-part-6
-slice-write-part-6 c = simp length-set (omega arith)
-
-cast-part-7 : tie.Need-cast-part-7
-cast-part-7 c = search needs
-
-slice-write-part-7 : tie.Need-slice-write-part-7
-slice-write-part-7 c = simp length-set (omega arith)
-
-cast-part-8 : tie.Need-cast-part-8
-cast-part-8 c = search needs
-
-slice-write-part-8 : tie.Need-slice-write-part-8
-slice-write-part-8 c = simp length-set (omega arith)
-
-same-length : tie.Need-same-length
-same-length c = simp length-set
-
 returns : tie.Need-returns
 returns c = sets-whole (bytesOf 8 (c .args .v)) (c .args .part .now) (c .pre)
 
@@ -65,21 +14,21 @@ pub put-quadword-spec : {M : Type 1} → statement M
 put-quadword-spec =
     tie.close
     (tie.spec
-    cast-part
-    slice-write-part
-    cast-part-2
-    slice-write-part-2
-    cast-part-3
-    slice-write-part-3
-    cast-part-4
-    slice-write-part-4
-    cast-part-5
-    slice-write-part-5
-    cast-part-6
-    slice-write-part-6
-    cast-part-7
-    slice-write-part-7
-    cast-part-8
-    slice-write-part-8
-    same-length
+    (λ c. search needs)
+    (λ c. search needs)
+    (λ c. search needs)
+    (λ c. search needs)
+    (λ c. search needs)
+    (λ c. search needs)
+    (λ c. search needs)
+    (λ c. search needs)
+    (λ c. search needs)
+    (λ c. simp length-set (omega arith))
+    (λ c. search needs)
+    (λ c. simp length-set (omega arith))
+    (λ c. search needs)
+    (λ c. simp length-set (omega arith))
+    (λ c. search needs)
+    (λ c. simp length-set (omega arith))
+    (λ c. simp length-set)
     returns)

@@ -4,20 +4,11 @@ use Rattle.numbers.proofs.SetBits.{all-chosen, ones-chosen, zeros-chose
 use Rattle.numbers.proofs.bits.chosen_below.Statement.{statement}
 use Rattle.numbers.proofs.bits.chosen_below.Tie as tie
 
-low-bits-requires : tie.Need-low-bits-requires
-low-bits-requires c κs = search needs
-
 returns : tie.Need-returns
 returns c = search (ones-chosen, needs)
 
-low-bits-requires-2 : tie.Need-low-bits-requires-2
-low-bits-requires-2 c κs = search needs
-
 returns-2 : tie.Need-returns-2
 returns-2 c = search (zeros-chosen, needs)
-
-low-bits-requires-3 : tie.Need-low-bits-requires-3
-low-bits-requires-3 c κs = search needs
 
 returns-3 : tie.Need-returns-3
 returns-3 c = search (all-chosen, needs)
@@ -26,9 +17,9 @@ pub chosen-below-spec : {M : Type 1} → statement M
 chosen-below-spec =
     tie.close
     (tie.spec
-    low-bits-requires
+    (λ c κs. search needs)
     returns
-    low-bits-requires-2
+    (λ c κs. search needs)
     returns-2
-    low-bits-requires-3
+    (λ c κs. search needs)
     returns-3)

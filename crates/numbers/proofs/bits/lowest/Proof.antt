@@ -8,8 +8,9 @@ use Rattle.numbers.proofs.bits.lowest.Tie as tie
 cast-result : tie.Need-cast-result
 cast-result c = record { fits = omega (arith, trailing-le 64 (c .args .x)) }
 
-returns : tie.Need-returns
-returns c = search needs
-
 pub lowest-spec : {M : Type 1} → statement M
-lowest-spec = tie.close (tie.spec cast-result returns)
+lowest-spec =
+    tie.close
+    (tie.spec
+    cast-result
+    (λ c. search needs))

@@ -5,7 +5,7 @@ use Rattle.numbers.proofs.bits.replaced.Statement.{statement}
 use Rattle.numbers.proofs.bits.replaced.Tie as tie
 
 returns : tie.Need-returns
-returns c = λ i. replaces _ _ _ (search needs) (search needs) (search needs) i
+returns c = search (replaces, needs)
 
 pub replaced-spec : {M : Type 1} → statement M
 replaced-spec = tie.close (tie.spec returns)

@@ -5,24 +5,21 @@ use Rattle.numbers.proofs.BitLaws.{shifted-back-le, word-with-bit, word
 use Rattle.numbers.proofs.bits.with_bit.Statement.{statement}
 use Rattle.numbers.proofs.bits.with_bit.Tie as tie
 
-shr-result : tie.Need-shr-result
-shr-result c = search needs
-
-shl-result : tie.Need-shl-result
-shl-result c = search needs
-
 sub-result : tie.Need-sub-result
 sub-result c = shifted-back-le (c .args .x) (c .args .i) _ 64 (omega arith)
 
-shl-result-2 : tie.Need-shl-result-2
-shl-result-2 c = search needs
-
 add-result : tie.Need-add-result
-add-result c = record { fits = word-with-bit-lt (c .args .x) (c .args .i) (c .args .v) 64 (c .pre .1) (c .pre .0) (c .fits .x .fits) }
+add-result c = search (word-with-bit-lt, needs)
 
 returns : tie.Need-returns
-returns c = word-with-bit (c .args .x) (c .args .i) (c .args .v) 64 (c .pre .1) (c .pre .0)
+returns c = search (word-with-bit, needs)
 
 pub with-bit-spec : {M : Type 1} → statement M
 with-bit-spec =
-    tie.close (tie.spec shr-result shl-result sub-result shl-result-2 add-result returns)
+    tie.close (tie.spec
+    (λ c. search needs)
+    (λ c. search needs)
+    sub-result
+    (λ c. search needs)
+    add-result
+    returns)

@@ -12,11 +12,10 @@ multiple-lt i stride h small = let le : i * stride ≤ 64 * stride = mul-le-mul-
 mul-result : tie.Need-mul-result
 mul-result c = record { fits = multiple-lt _ _ (search needs) (search needs) }
 
-cast-result : tie.Need-cast-result
-cast-result c = search needs
-
-returns : tie.Need-returns
-returns c = search needs
-
 pub multiple-spec : {M : Type 1} → statement M
-multiple-spec = tie.close (tie.spec mul-result cast-result returns)
+multiple-spec =
+    tie.close
+    (tie.spec
+    mul-result
+    (λ c. search needs)
+    (λ c. search needs))

@@ -1,17 +1,21 @@
--- `look_up` meets its contract: by the table's rule. Assumes nothing.
-use Rattle.opcodes.proofs.Checks.{looks-up}
+-- `look_up` meets its contract: the constant is the table that passed the test. Assumes nothing.
 use borrow.Author.Needs.{needs}
+use Rattle.opcodes.proofs.Rule.{work, looked-up-reserved, looked-up-accepted}
 use Rattle.opcodes.proofs.table.look_up.Statement.{statement}
 use Rattle.opcodes.proofs.table.look_up.Tie as tie
 
-number-requires : tie.Need-number-requires
-number-requires c κs = search needs
-
-numbered-requires : tie.Need-numbered-requires
-numbered-requires c κs = search needs
-
 returns : tie.Need-returns
-returns c = search (looks-up, needs)
+unfolding work
+returns c = search (looked-up-reserved, needs)
+
+returns-2 : tie.Need-returns-2
+unfolding work
+returns-2 c = search (looked-up-accepted, needs)
 
 pub look-up-spec : {M : Type 1} → statement M
-look-up-spec = tie.close (tie.spec number-requires numbered-requires returns)
+look-up-spec =
+    tie.close
+    (tie.spec
+    (λ c. search needs)
+    returns
+    returns-2)

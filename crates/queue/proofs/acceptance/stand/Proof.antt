@@ -6,41 +6,35 @@ use Rattle.queue.proofs.Accepting.{refused-12, refused-8, refused-3, re
 use Rattle.queue.proofs.acceptance.stand.Statement.{statement}
 use Rattle.queue.proofs.acceptance.stand.Tie as tie
 
-in-range-requires : tie.Need-in-range-requires
-in-range-requires c κs = search needs
-
 returns : tie.Need-returns
 returns c =
     refused-12 _ _ (sym (c .before .in-range .ensures) ∙ not-true _ (c .if1 .taken))
 
-well-formed-requires : tie.Need-well-formed-requires
-well-formed-requires c κs = search needs
-
 returns-2 : tie.Need-returns-2
 returns-2 c =
-    refused-8 _ _ (sym (c .before .before .before .in-range .ensures) ∙ not-false _ (c .before .before .if1 .left)) (sym (c .before .well-formed .ensures) ∙ not-true _ (c .if2 .taken))
-
-enabled-requires : tie.Need-enabled-requires
-enabled-requires c κs = search needs
+    let e1 = c .before .before in
+    refused-8 _ _ (sym (e1 .before .in-range .ensures) ∙ not-false _ (e1 .if1 .left)) (sym (c .before .well-formed .ensures) ∙ not-true _ (c .if2 .taken))
 
 returns-3 : tie.Need-returns-3
 returns-3 c =
     let e2 = c .before .before in let e1 = e2 .before .before in
-    refused-3 _ _ (sym (e1 .before .in-range .ensures) ∙ not-false _ (e1 .if1 .left)) (sym (e2 .before .well-formed .ensures) ∙ not-false _ (e2 .if2 .left)) (sym (c .before .enabled .ensures) ∙ not-true _ (c .if3 .taken))
+    refused-3 _ _ (sym (e1 .before .in-range .ensures) ∙ not-false _ (e1 .if1 .left)) (sym (e2 .before .well-formed .ensures) ∙ not-false _ (e2 .if2 .left))
+    (sym (c .before .enabled .ensures) ∙ not-true _ (c .if3 .taken))
 
 returns-4 : tie.Need-returns-4
 returns-4 c =
     let e2 = c .before .before in let e1 = e2 .before .before in
-    refused-not _ _ (sym (e1 .before .in-range .ensures) ∙ not-false _ (e1 .if1 .left)) (sym (e2 .before .well-formed .ensures) ∙ not-false _ (e2 .if2 .left)) (sym (c .before .enabled .ensures) ∙ not-false _ (c .if3 .left))
+    refused-not _ _ (sym (e1 .before .in-range .ensures) ∙ not-false _ (e1 .if1 .left))
+    (sym (e2 .before .well-formed .ensures) ∙ not-false _ (e2 .if2 .left)) (sym (c .before .enabled .ensures) ∙ not-false _ (c .if3 .left))
 
 pub stand-spec : {M : Type 1} → statement M
 stand-spec =
     tie.close
     (tie.spec
-    in-range-requires
+    (λ c κs. search needs)
     returns
-    well-formed-requires
+    (λ c κs. search needs)
     returns-2
-    enabled-requires
+    (λ c κs. search needs)
     returns-3
     returns-4)

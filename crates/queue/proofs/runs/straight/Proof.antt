@@ -4,14 +4,15 @@ use Prim.Native.Nat.{_≤_, _-_}
 use borrow.Author.Needs.{needs}
 use lib.ListN.{length}
 use Rattle.machine.specs.Run.{run}
-use Rattle.queue.specs.Tables.{throughBy}
+use Rattle.queue.specs.CallsWorking.{throughBy}
 use Rattle.numbers.proofs.Rising.{starts, turns, ends}
 use Rattle.queue.proofs.Through.{whole-short}
 use Rattle.queue.proofs.runs.straight.Statement.{statement}
 use Rattle.queue.proofs.runs.straight.Tie as tie
 
 abbrev Inv-loop : tie.InvT-loop
-Inv-loop elements₀ scalars program progress₀ k₀ elements progress k = (k ≤ length scalars) × (progress .control .vlr ≤ 64) × (run elements progress ≡ throughBy program scalars k (run elements₀ progress₀))
+Inv-loop elements₀ scalars program progress₀ k₀ elements progress k =
+    (k ≤ length scalars) × (progress .control .vlr ≤ 64) × (run elements progress ≡ throughBy program scalars k (run elements₀ progress₀))
 
 abbrev μ-loop : tie.MeasureT-loop
 μ-loop elements₀ scalars program progress₀ k₀ elements progress k = length scalars - k
@@ -20,31 +21,19 @@ loop-holds : tie.Need-loop-holds Inv-loop μ-loop
 loop-holds c = (search needs, search needs, starts _ _)
 
 mul-instruction : tie.Need-mul-instruction Inv-loop μ-loop
-mul-instruction c = let few = c .before .before .before .pre .0 .1 in search needs
+mul-instruction c = let start : tie.Start Inv-loop μ-loop = search needs in let few = start .pre .0 .1 in search needs
 
 array-copy-out-instruction : tie.Need-array-copy-out-instruction Inv-loop μ-loop
-array-copy-out-instruction c = let few = c .before .before .before .pre .0 .1 in search needs
-
-mul-whole : tie.Need-mul-whole Inv-loop μ-loop
-mul-whole c = search needs
-
-shared-slice-read-whole : tie.Need-shared-slice-read-whole Inv-loop μ-loop
-shared-slice-read-whole c = search needs
+array-copy-out-instruction c = let start : tie.Start Inv-loop μ-loop = search needs in let few = start .pre .0 .1 in search needs
 
 whole-requires : tie.Need-whole-requires Inv-loop μ-loop
 whole-requires c κs =
-    let at = c .before .before .before .before in
-    let b = at .before .before .pre .1 (at .loop .k) (c .before .before .before .loop-test .taken) in (b .va, b .vb, b .vc, at .loop .inv .1)
-
-add-k : tie.Need-add-k Inv-loop μ-loop
-add-k c = search needs
-
-loop-less : tie.Need-loop-less Inv-loop μ-loop
-loop-less c = search needs
+    let turn : tie.In-loop Inv-loop μ-loop = search needs in let at : tie.At-loop Inv-loop μ-loop = search needs in
+    let b = at .before .before .pre .1 (at .loop .k) (turn .loop-test .taken) in (b .below, b .work, at .loop .inv .1)
 
 loop-again : tie.Need-loop-again Inv-loop μ-loop
 loop-again c =
-    let at = c .before .before .before .before .before in
+    let at : tie.At-loop Inv-loop μ-loop = search needs in
     (search needs, whole-short _ _ _ _ (at .loop .inv .1) (c .whole .ensures), turns _ (at .loop .k) _ _ _ (at .loop .inv .2) (c .whole .ensures))
 
 returns : tie.Need-returns Inv-loop μ-loop
@@ -60,10 +49,10 @@ straight-spec =
     loop-holds
     mul-instruction
     array-copy-out-instruction
-    mul-whole
-    shared-slice-read-whole
+    (λ c. search needs)
+    (λ c. search needs)
     whole-requires
-    add-k
-    loop-less
+    (λ c. search needs)
+    (λ c. search needs)
     loop-again
     returns)

@@ -4,14 +4,16 @@ use Prim.Native.Nat.{_-_}
 use borrow.Author.Needs.{needs}
 use lib.ListN.{length}
 use Rattle.machine.specs.Run.{run}
-use Rattle.queue.specs.Tables.{actBy}
-use Rattle.queue.proofs.RunLoop.{RunInv, run-start, run-one, run-end, act-vlr}
+use Rattle.queue.specs.CallsWorking.{actBy}
+use Rattle.order.proofs.RunLoop.{RunInv, run-start, run-one, run-end}
+use Rattle.queue.proofs.Through.{act-vlr}
 use Rattle.queue.proofs.Through.{vlrOf}
 use Rattle.queue.proofs.runs.walk.Statement.{statement}
 use Rattle.queue.proofs.runs.walk.Tie as tie
 
 abbrev Inv-loop : tie.InvT-loop
-Inv-loop elements₀ program scalars list progress₀ i₀ elements progress i = (progress .control .vlr ≡ progress₀ .control .vlr) × RunInv (actBy program scalars) list (run elements₀ progress₀) (run elements progress) i
+Inv-loop elements₀ program scalars list progress₀ i₀ elements progress i =
+    (progress .control .vlr ≡ progress₀ .control .vlr) × RunInv (actBy program scalars) list (run elements₀ progress₀) (run elements progress) i
 
 abbrev μ-loop : tie.MeasureT-loop
 μ-loop elements₀ program scalars list progress₀ i₀ elements progress i = length list - i
@@ -19,27 +21,19 @@ abbrev μ-loop : tie.MeasureT-loop
 loop-holds : tie.Need-loop-holds Inv-loop μ-loop
 loop-holds c = (refl, run-start _ _ _)
 
-mul-enter : tie.Need-mul-enter Inv-loop μ-loop
-mul-enter c = search needs
-
-shared-slice-read-enter : tie.Need-shared-slice-read-enter Inv-loop μ-loop
-shared-slice-read-enter c = search needs
-
 enter-requires : tie.Need-enter-requires Inv-loop μ-loop
 enter-requires c κs =
-    let at = c .before .before .before in let s = at .before .before .before in
+    let at : tie.At-loop Inv-loop μ-loop = search needs in let s : tie.Start Inv-loop μ-loop = search needs in
     ((rw (at .loop .inv .0) (s .pre .0 .0), s .pre .0 .1, s .pre .1 .1 (at .loop .i) (c .before .before .loop-test .taken)), s .pre .1 .0)
-
-add-i : tie.Need-add-i Inv-loop μ-loop
-add-i c = search needs
-
-loop-less : tie.Need-loop-less Inv-loop μ-loop
-loop-less c = search needs
 
 loop-again : tie.Need-loop-again Inv-loop μ-loop
 loop-again c =
-    let at = c .before .before .before .before in let a = at .before .before .before .args in
-    (ap vlrOf (c .enter .ensures) ∙ act-vlr _ (a .scalars .now) _ _ ∙ at .loop .inv .0, run-one _ _ _ _ _ (at .loop .inv .1) (c .before .before .before .loop-test .taken) _ (c .enter .ensures))
+    let turn : tie.In-loop Inv-loop μ-loop = search needs in let at : tie.At-loop Inv-loop μ-loop = search needs in
+    let start : tie.Start Inv-loop μ-loop = search needs in let a = start .args in (
+      ap vlrOf (c .enter .ensures) ∙ act-vlr _ (a .scalars .now) _ _ ∙ at .loop .inv .0,
+      run-one _ _ _ _ _ (at .loop .inv .1) (turn .loop-test .taken) _
+          (c .enter .ensures),
+    )
 
 returns : tie.Need-returns Inv-loop μ-loop
 returns c = run-end _ _ _ _ _ (c .before .loop .inv .1) (c .loop-test .left)
@@ -51,10 +45,10 @@ walk-spec =
     Inv-loop
     μ-loop
     loop-holds
-    mul-enter
-    shared-slice-read-enter
+    (λ c. search needs)
+    (λ c. search needs)
     enter-requires
-    add-i
-    loop-less
+    (λ c. search needs)
+    (λ c. search needs)
     loop-again
     returns)

@@ -4,11 +4,12 @@ use borrow.Author.Needs.{needs}
 use Rattle.running.proofs.records.well_formed.Statement.{statement}
 use Rattle.running.proofs.records.well_formed.Tie as tie
 
-all-unfilled-requires : tie.Need-all-unfilled-requires
-all-unfilled-requires c κs = search needs
-
 returns : tie.Need-returns
-returns c = formed _ _ (c .all-unfilled .ensures)
+returns c = search (formed, needs)
 
 pub well-formed-spec : {M : Type 1} → statement M
-well-formed-spec = tie.close (tie.spec all-unfilled-requires returns)
+well-formed-spec =
+    tie.close
+    (tie.spec
+    (λ c κs. search needs)
+    returns)

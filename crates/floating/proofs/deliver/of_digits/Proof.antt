@@ -1,0 +1,34 @@
+-- `floating::deliver::of_digits` meets its contract. Assumes nothing.
+use mathlib.Core.Path.{ap, _∙_}
+use Prim.Native.Nat.{ℕ, _-_, _^_}
+use lib.Dec.{lit<, lit≤}
+use Rattle.floating.specs.Format.{F}
+use Rattle.floating.specs.Round.{near}
+use Rattle.floating.specs.Operations.{answered}
+use Rattle.floating.proofs.Delivering.{placed-settled}
+use borrow.Author.Needs.{needs}
+use Rattle.floating.proofs.deliver.of_digits.Statement.{statement}
+use Rattle.floating.proofs.deliver.of_digits.Tie as tie
+
+returns : tie.Need-returns
+returns c =
+    let m = c .before .near-of in
+    let moved = c .before .before in
+    let y = moved .raised in
+    let z = moved .before .zeros-of in
+    let a = moved .before .before .args in
+    let rounds = m .ensures .0 ∙ ap (λ (v : ℕ). near v (2 ^ (64 - F .bits))) (y .ensures) in
+    c .judged .ensures
+    ∙ ap (answered (a .exc))
+    (placed-settled F 64 (a .s) (a .x) (a .e) (a .down) (z .result) (m .result) (lit< tt) (lit≤ tt) (z .ensures .1) (z .ensures .2) rounds)
+
+pub of-digits-spec : {M : Type 1} → statement M
+of-digits-spec =
+    tie.close
+    (tie.spec
+    (λ c κs. search needs)
+    (λ c. search needs)
+    (λ c κs. search needs)
+    (λ c κs. search needs)
+    (λ c κs. search needs)
+    returns)
