@@ -3,8 +3,8 @@ use state::answer::Answer;
 ghost use mathlib.Core.Path.{_≡_};
 ghost use Rattle.opcodes.specs.Decoding.{decodedOf};
 
-pub mod control_word;
-pub mod table;
+mod control_word;
+mod table;
 pub mod works;
 
 // An opcode: the number of its work, and whether it is the scalar form; or none. The scalar form of an operate opcode

@@ -11,7 +11,8 @@ use lib.Seq.{take-suc-set}
 use Rattle.numbers.specs.Bytes.{numberOf}
 use Rattle.numbers.proofs.Places.{places, valuesBelow}
 use Rattle.saved.proofs.Loading.{part-is}
-use Rattle.running.specs.Records.{controlWordIn, scalarIn, unfilled, allUnfilled, each, filled}
+use Rattle.running.specs.Records.{controlWordIn, scalarIn, unfilled, allUnfilled, each}
+use Rattle.running.specs.Working.{filled}
 
 module _ (part : List ℕ) (e : length part ≡ 16) where
   abbrev byte : ℕ → ℕ

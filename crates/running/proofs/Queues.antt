@@ -21,8 +21,9 @@ use Rattle.saved.proofs.Loading.{gives-state}
 use Rattle.saved.proofs.RoundTrip.{done-accepted, refused-at}
 use Rattle.touch.specs.Parts.{queue}
 use Rattle.queue.specs.Run.{queueRun}
-use Rattle.running.specs.Records.{opcodeAt, controlWordAt, scalarAt, allUnfilled, wellFormed, filled, each, queueIn}
-use Rattle.running.specs.Runner.{fileIn, recordsIn, fileSize, recordsRun, inputRun}
+use Rattle.running.specs.Records.{opcodeAt, controlWordAt, scalarAt, allUnfilled, wellFormed, each, queueIn}
+use Rattle.running.specs.Working.{filled, fileSize}
+use Rattle.running.specs.Runner.{fileIn, recordsIn, recordsRun, inputRun}
 use Rattle.running.proofs.Parts.{filled-length, filled-each}
 
 pub formed : (l : List ℕ) (b : Bool) → b ≡ allUnfilled (length l / 16) l → (leb (length l) 256 && (eqb (length l % 16) 0 && b)) ≡ wellFormed l

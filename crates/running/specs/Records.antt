@@ -3,7 +3,7 @@ use mathlib.Core.Bool.{Bool, true, _&&_}
 use mathlib.Core.List.{List, [], _∷_, _++_}
 use Prim.Native.Nat.{ℕ, zero, suc, _*_, _/_, _%_}
 use lib.Dec.{leb, eqb}
-use lib.ListN.{length, take, drop, getD, set}
+use lib.ListN.{length, take, drop, getD}
 use Rattle.numbers.specs.Bytes.{numberOf, allZero}
 use Rattle.touch.specs.Parts.{Queue, queue}
 
@@ -48,11 +48,6 @@ scalarAt records k = scalarIn (recordAt records k)
 unfoldable pub each : ℕ → (ℕ → ℕ) → List ℕ
 each zero f = []
 each (suc n) f = each n f ++ (f n ∷ [])
-
--- l with its first n places holding these
-unfoldable pub filled : ℕ → (ℕ → ℕ) → List ℕ → List ℕ
-filled zero f l = l
-filled (suc n) f l = set (filled n f l) n (f n)
 
 -- the queue of the first n records
 unfoldable pub queueIn : ℕ → List ℕ → Queue

@@ -1,7 +1,6 @@
 -- The runner: a saved file, then instruction records, run as one queue straight through; the answer and, on 0, the listing of the new state.
 use mathlib.Core.List.{List, [], _++_}
 use Prim.Native.Nat.{ℕ, _/_}
-use lib.Dec.{ltb}
 use lib.ListN.{length, take, drop, replicate}
 use Rattle.numbers.specs.Choice.{pick}
 use Rattle.state.specs.declared.answer.Answer.the-variants.{QueueRefused, BadFile}
@@ -20,10 +19,6 @@ fileIn input = take 16464 input
 
 abbrev pub recordsIn : List ℕ → List ℕ
 recordsIn input = drop 16464 input
-
--- how many of n bytes are the file's
-abbrev pub fileSize : ℕ → ℕ
-fileSize n = pick (ltb n 16464) n 16464
 
 -- the records on a state: 8 where they are no queue, then the queue's own numbers
 unfoldable pub recordsRun : List ℕ → State → Outcome State

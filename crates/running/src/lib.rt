@@ -11,7 +11,8 @@ ghost use Prim.Native.Nat.{_≤_};
 ghost use lib.ListN.{length};
 ghost use Rattle.state.specs.Outcome.{outcome};
 ghost use Rattle.state.specs.State.{state as stateOf};
-ghost use Rattle.running.specs.Runner.{fileSize, recordsRun, inputRun, inputPrinted, none};
+ghost use Rattle.running.specs.Working.{fileSize};
+ghost use Rattle.running.specs.Runner.{recordsRun, inputRun, inputPrinted, none};
 
 // The bytes that hold every answer's line and every listing.
 const TEXT_ROOM: usize = 25705;

@@ -3,7 +3,8 @@ use crate::record;
 ghost use mathlib.Core.Path.{_≡_};
 ghost use Prim.Native.Nat.{_*_, _≤_};
 ghost use lib.ListN.{length};
-ghost use Rattle.running.specs.Records.{opcodeAt, controlWordAt, scalarAt, allUnfilled, wellFormed, filled};
+ghost use Rattle.running.specs.Records.{opcodeAt, controlWordAt, scalarAt, allUnfilled, wellFormed};
+ghost use Rattle.running.specs.Working.{filled};
 
 // The filler bytes of the first n records are zero.
 fn all_unfilled(records: &[u8], n: usize) -> bool

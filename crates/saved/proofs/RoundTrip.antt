@@ -319,12 +319,6 @@ pub refused-at : (file : List ℕ) (old : State) (o : Outcome State) → o ≡ l
 unfolding loading
 refused-at file old o e d = let a = sym (judged file old o e) ∙ d in (a, e ∙ pick-false (accepted file) _ _ a)
 
--- a file that loads gives a control record in range
-pub loads-ranged : (file : List ℕ) (old s : State) → loading file old ≡ outcome (Done 0) s → inRange (s .control) ≡ true
-loads-ranged file old s e =
-    let d = done-accepted file old (outcome (Done 0) s) (sym e) refl in
-    ap (λ (t : State). inRange (t .control)) (d .1) ∙ control-ranged file (d .0)
-
 -- a file that loads gives a state that the machine can hold
 pub loads-held : (file : List ℕ) (old s : State) → Bytes file → length (old .elements) ≡ 1024 → loading file old ≡ outcome (Done 0) s → Held s
 unfolding now

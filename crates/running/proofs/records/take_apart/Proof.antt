@@ -2,7 +2,8 @@
 use mathlib.Core.Path.{_≡_}
 use Prim.Native.Nat.{_≤_, _-_}
 use native.Mathlib.Omega.{arith}
-use Rattle.running.specs.Records.{opcodeIn, controlWordIn, scalarIn, opcodeAt, controlWordAt, scalarAt, filled}
+use Rattle.running.specs.Records.{opcodeIn, controlWordIn, scalarIn, opcodeAt, controlWordAt, scalarAt}
+use Rattle.running.specs.Working.{filled}
 use Rattle.saved.proofs.Loading.{part-is}
 use Rattle.running.proofs.Parts.{filled-starts, filled-turns, filled-ends}
 use borrow.Author.Needs.{needs}
