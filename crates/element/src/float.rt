@@ -44,7 +44,7 @@ pub fn compare(relation: u64, a: u64, b: u64) -> Out
     crate::mask_bit(x.bit, x.types as u64)
 }
 
-// The conversion of a source's bits <31:0>.
+// The conversion of a source's bits <31:0>: 5, 4 or 1. Decoding refused any other, which would be done as 1.
 fn conversion_of(conversion: u64, exc: bool, b: u64) -> floating::Flagged
     ensures { λ r. ⌜ r ≡ converted conversion exc b ⌝ }
 {

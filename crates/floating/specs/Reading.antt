@@ -24,7 +24,7 @@ bitsOf (Number x) = toBits binary64 x
 bitsOf (Longword i) = low32 i
 bitsOf (Reserved c) = c
 
--- a binary64 number is exactly v
+-- a binary64 number is exactly v; of the other cases nothing is claimed here, since a word of the format is shown as a longword by no promise
 abbrev pub IsValue : Reading → Exact → Type 0
 IsValue (Number x) v = HasValue x (eqb (v .sign) 1) (v .num) (v .den)
 IsValue (Longword i) v = Unit {0}
