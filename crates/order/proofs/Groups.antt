@@ -1,5 +1,5 @@
--- A position's group, which is itself and those that it is bound to: where nothing of the group is left, once the position is flipped in what is left, its step
--- may come. Assumes nothing.
+-- A position's group, which is itself and those that it is bound to: where nothing of the group is left, once the position is flipped in what is left,
+-- its step may come. Assumes nothing.
 use mathlib.Core.Path.{_≡_, refl, sym, ap, ap₂, _∙_}
 use mathlib.Core.Bool.{Bool, Bool·beq, true, false, not, _&&_, _||_}
 use mathlib.Core.List.{List}

@@ -55,4 +55,5 @@ pub passing-same : (p p′ : ℕ → Bool) (i n : ℕ) → ((k : ℕ) → i ≤ 
 unfolding passing
 passing-same p p′ i zero f = refl
 passing-same p p′ i (suc n) f =
-    ap₂ (λ (t : Bool) (l : List ℕ). pick t (i ∷ l) l) (f i (omega arith) (omega arith)) (passing-same p p′ (suc i) n (λ k h g. f k (omega arith) (omega arith)))
+    ap₂ (λ (t : Bool) (l : List ℕ). pick t (i ∷ l) l) (f i (omega arith) (omega arith))
+    (passing-same p p′ (suc i) n (λ k h g. f k (omega arith) (omega arith)))

@@ -46,7 +46,8 @@ pub starts : (old : List ℕ) (vlr iotas : ℕ) (table : List ℕ) (e : ℕ) →
 starts old vlr iotas table e s h = record { long = s .long; low = s .low; high = λ j g l. s .written j g (omega arith) }
 
 -- a position leaves each set
-pub leaves-each : (old : List ℕ) (p : ℕ) (table : List ℕ) (e : ℕ) → length old ≡ 64 → p < 64 → e < 64 → Swept old 0 (λ (j : ℕ). parted (getD old j 0) p) table e
+pub leaves-each : (old : List ℕ) (p : ℕ) (table : List ℕ) (e : ℕ) → length old ≡ 64 → p < 64 → e < 64
+    → Swept old 0 (λ (j : ℕ). parted (getD old j 0) p) table e
     → Swept old 0 (λ (j : ℕ). parted (getD old j 0) p)
     (set table e (bitXor (bitOr (getD table e 0) (1 * 2 ^ p % 18446744073709551616)) (1 * 2 ^ p % 18446744073709551616))) (e + 1)
 leaves-each old p table e l h g s =

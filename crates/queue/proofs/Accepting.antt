@@ -85,7 +85,8 @@ module _ (q : Queue) where
     then = go (inRange c) (wellFormed q) (enabled c)
       where
         go : (a b e : Bool) → pick a (pick b (pick e (positions q (size q)) Disabled) QueueRefused) OutOfRange
-            ≡ pick (isDone (pick a (pick b (pick e (Done 0) Disabled) QueueRefused) OutOfRange)) (positions q (size q)) (pick a (pick b (pick e (Done 0) Disabled) QueueRefused) OutOfRange)
+            ≡ pick (isDone (pick a (pick b (pick e (Done 0) Disabled) QueueRefused) OutOfRange)) (positions q (size q))
+            (pick a (pick b (pick e (Done 0) Disabled) QueueRefused) OutOfRange)
         go true true true = refl
         go true true false = refl
         go true false e = refl

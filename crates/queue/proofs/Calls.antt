@@ -13,9 +13,9 @@ use Rattle.state.specs.declared.answer.Answer.{Answer}
 use Rattle.state.specs.declared.answer.Answer.the-variants.{Done, Disabled, QueueRefused, OrderRefused, OutOfRange}
 use Rattle.state.specs.Answer.{isDone}
 use Rattle.state.specs.declared.answer.Ended.{Ended}
-use Rattle.state.specs.Outcome.{outcome, refused, refusedState}
+use Rattle.state.specs.Outcome.{Outcome, outcome, refused, refusedState}
 use Rattle.state.proofs.Refusing.{refuses-state}
-use Rattle.state.specs.State.{state, inRange, enabled, lengthInRange, vaerInRange, vpsrInRange}
+use Rattle.state.specs.State.{State, state, inRange, enabled, lengthInRange, vaerInRange, vpsrInRange}
 use Rattle.machine.specs.declared.Progress.{Progress}
 use Rattle.machine.specs.Run.{run, progress, nothing, ended, finished}
 use Rattle.touch.specs.Parts.{Queue, size, instructionAt}
@@ -31,9 +31,8 @@ use Rattle.opcodes.specs.declared.Instruction.{Instruction}
 use Rattle.order.proofs.Meaning.{place-in}
 use Rattle.queue.proofs.Claim.{permitted-proper}
 use Rattle.touch.proofs.Steps.{step-of, step-position}
-use Rattle.queue.proofs.Through.{at-runs, same-through}
+use Rattle.queue.proofs.Through.{at-runs, same-through, same-acts}
 use Rattle.order.proofs.RunLoop.{run-same}
-use Rattle.queue.proofs.Through.{same-acts}
 use Rattle.queue.proofs.Accepting.{Lengths, lengths}
 use Rattle.order.proofs.Tests.{both}
 
@@ -73,16 +72,24 @@ module _ (q : Queue) (l : List ℕ) (c : Control) (r : Answer) (asked : r ≡ ac
   pub reply-bounded : isDone r ≡ true → Bounded c q
   reply-bounded f = fine-bounded c q (sym (ap isDone asked) ∙ f)
 
+  -- what a call gives whose accepted queue gives x
+  by-reply : (x : Outcome State) (t : Bool) → isDone r ≡ t → pick t x (refusedState (acceptance c q) (state l c))
+      ≡ pick (isDone (acceptance c q)) x (refusedState (acceptance c q) (state l c))
+  by-reply x t f = sym (ap (λ (b : Bool). pick b x (refusedState (acceptance c q) (state l c))) (sym (ap isDone asked) ∙ f))
+
+  by-refusal : (x : Outcome State) → isDone r ≡ false → (d : Ended) → outcome (d .answer) (d .control) ≡ refused r c
+      → outcome (d .answer) (state l (d .control)) ≡ pick (isDone (acceptance c q)) x (refusedState (acceptance c q) (state l c))
+  by-refusal x f d e = refuses-state (state l c) r d e ∙ ap (λ (a : Answer). refusedState a (state l c)) asked ∙ by-reply x false f
+
   -- ---- straight through
-  pub run-refused : isDone r ≡ false → (d : Ended) → outcome (d .answer) (d .control) ≡ refused r c → outcome (d .answer) (state l (d .control)) ≡ queueRun q (state l c)
+  pub run-refused : isDone r ≡ false → (d : Ended) → outcome (d .answer) (d .control) ≡ refused r c
+      → outcome (d .answer) (state l (d .control)) ≡ queueRun q (state l c)
   unfolding queueRun
-  run-refused f d e =
-      refuses-state (state l c) r d e
-      ∙ ap (λ (a : Answer). refusedState a (state l c)) asked
-      ∙ sym (ap (λ (t : Bool). pick t (outcome (Done 0) (ranThrough q (state l c))) (refusedState (acceptance c q) (state l c))) (sym (ap isDone asked) ∙ f))
+  run-refused = by-refusal _
 
   module _ (f : isDone r ≡ true) (program : List Instruction) (same : (k : ℕ) → k < size q → decodedAt program k ≡ instructionAt q k) where
-    pub through-meets : (p : Progress) → p ≡ progress c nothing → ((p .control .vlr ≤ 64) × (length (q .scalars) ≤ 16)) × ((k : ℕ) → k < length (q .scalars) → Runs (decodedAt program k))
+    pub through-meets : (p : Progress) → p ≡ progress c nothing
+        → ((p .control .vlr ≤ 64) × (length (q .scalars) ≤ 16)) × ((k : ℕ) → k < length (q .scalars) → Runs (decodedAt program k))
     through-meets p e =
         let a = reply-bounded f in (
           (rw (ap (λ (b : Progress). b .control .vlr) e) (a .short), rw (a .lengths .scalars) (a .lengths .few)),
@@ -102,27 +109,24 @@ module _ (q : Queue) (l : List ℕ) (c : Control) (r : Answer) (asked : r ≡ ac
 
       pub run-done : run l′ p′ ≡ throughBy program (q .scalars) (length (q .scalars)) (run l p) → outcome (Done 0) (state l′ c′) ≡ queueRun q (state l c)
       unfolding queueRun
-      run-done e =
-          ap (outcome (Done 0)) (through e)
-          ∙ sym (ap (λ (t : Bool). pick t (outcome (Done 0) (ranThrough q (state l c))) (refusedState (acceptance c q) (state l c))) (sym (ap isDone asked) ∙ f))
+      run-done e = ap (outcome (Done 0)) (through e) ∙ by-reply _ true f
 
   -- ---- by a list
   pub order-refused : isDone r ≡ false → (list : List ℕ) (d : Ended) → outcome (d .answer) (d .control) ≡ refused r c
       → outcome (d .answer) (state l (d .control)) ≡ walkedRun q list (state l c)
   unfolding walkedRun
-  order-refused f list d e =
-      refuses-state (state l c) r d e
-      ∙ ap (λ (a : Answer). refusedState a (state l c)) asked
-      ∙ sym (ap (λ (t : Bool). pick t (byVerdict (state l c) (ranBy q list (state l c)) (verdictOf q (c .vlr) list)) (refusedState (acceptance c q) (state l c))) (sym (ap isDone asked) ∙ f))
+  order-refused f list = by-refusal _ f
 
   module _ (f : isDone r ≡ true) (list : List ℕ) where
     as-walked : byVerdict (state l c) (ranBy q list (state l c)) (verdictOf q (c .vlr) list) ≡ walkedRun q list (state l c)
     unfolding walkedRun
-    as-walked = sym (ap (λ (t : Bool). pick t (byVerdict (state l c) (ranBy q list (state l c)) (verdictOf q (c .vlr) list)) (refusedState (acceptance c q) (state l c))) (sym (ap isDone asked) ∙ f))
+    as-walked = by-reply _ true f
 
     pub order-stopped : (v : Verdict) (place : ℕ) → v ≡ verdictOf q (c .vlr) list → v ≡ verdict.Refused place
-        → (d : Ended) → outcome (d .answer) (d .control) ≡ refused (OrderRefused place) c → outcome (d .answer) (state l (d .control)) ≡ walkedRun q list (state l c)
-    order-stopped v place e g d k = refuses-state (state l c) (OrderRefused place) d k ∙ ap (byVerdict (state l c) (ranBy q list (state l c))) (sym g ∙ e) ∙ as-walked
+        → (d : Ended) → outcome (d .answer) (d .control) ≡ refused (OrderRefused place) c
+        → outcome (d .answer) (state l (d .control)) ≡ walkedRun q list (state l c)
+    order-stopped v place e g d k =
+        refuses-state (state l c) (OrderRefused place) d k ∙ ap (byVerdict (state l c) (ranBy q list (state l c))) (sym g ∙ e) ∙ as-walked
 
     module _ (program : List Instruction) (same : (k : ℕ) → k < size q → decodedAt program k ≡ instructionAt q k) (v : Verdict)
         (e : v ≡ verdictOf q (c .vlr) list) (permitted : v ≡ verdict.Permitted) where

@@ -27,7 +27,8 @@ walked-straight q list s = at (isDone (acceptance (s .control) q)) refl
     by (Refused place) e short = refl
 
     at : (t : Bool) → isDone (acceptance (s .control) q) ≡ t
-        → pick t (byVerdict s (ranBy q list s) (verdictOf q (s .control .vlr) list)) (refusedState (acceptance (s .control) q) s) ≡ pick t (byVerdict s (ranThrough q s) (verdictOf q (s .control .vlr) list)) (refusedState (acceptance (s .control) q) s)
+        → pick t (byVerdict s (ranBy q list s) (verdictOf q (s .control .vlr) list)) (refusedState (acceptance (s .control) q) s)
+        ≡ pick t (byVerdict s (ranThrough q s) (verdictOf q (s .control .vlr) list)) (refusedState (acceptance (s .control) q) s)
     at true e = by (verdictOf q (s .control .vlr) list) refl (fine-bounded (s .control) q e .short)
     at false e = refl
 

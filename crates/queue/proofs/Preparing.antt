@@ -169,7 +169,8 @@ module _ (q : Queue) (l : List ℕ) (c : Control) (r : Answer) (program : List I
         right = checked ∙ tables-verdict q (c .vlr) (getD writers 17 0) bound (prepared-tables q bound readers writers k inv end) (bounds-kept .short) list
 
         pub listed-stopped : (place : ℕ) → v ≡ verdict.Refused place
-            → (d : Ended) → outcome (d .answer) (d .control) ≡ refusedOf (OrderRefused place) c → outcome (d .answer) (state l (d .control)) ≡ walkedRun q list (state l c)
+            → (d : Ended) → outcome (d .answer) (d .control) ≡ refusedOf (OrderRefused place) c
+            → outcome (d .answer) (state l (d .control)) ≡ walkedRun q list (state l c)
         listed-stopped place e = order-stopped q l c r (accepts .answered) passes list v place right e
 
         module _ (permitted : v ≡ verdict.Permitted) (p : Progress) (begun : p ≡ progress c nothing) where
@@ -185,5 +186,6 @@ module _ (q : Queue) (l : List ℕ) (c : Control) (r : Answer) (program : List I
                 ),
               )
 
-          pub listed-done : (l′ : List ℕ) (p′ : Progress) (c′ : Control) → c′ ≡ ended p′ → run l′ p′ ≡ walkOf (actBy program (q .scalars)) list (run l p) → outcome (Done 0) (state l′ c′) ≡ walkedRun q list (state l c)
+          pub listed-done : (l′ : List ℕ) (p′ : Progress) (c′ : Control) → c′ ≡ ended p′ → run l′ p′ ≡ walkOf (actBy program (q .scalars)) list (run l p)
+              → outcome (Done 0) (state l′ c′) ≡ walkedRun q list (state l c)
           listed-done l′ p′ c′ = order-done q l c r (accepts .answered) passes list program decoding v right permitted l′ p p′ c′ begun

@@ -63,7 +63,8 @@ module _ (q : Queue) (vlr iotas : ℕ) (bound : List ℕ) (t : RightTables q iot
         ap (λ (b : Bool). b && (bit iotas (position a) || bit iotas (position x) || eqb (element a) (element x))) (t .bind (position x) (position a) px)
         ∙ ap₂ (λ (i j : Bool). (ltb (position a) (position x) && binds (instructionAt q (position a)) (instructionAt q (position x))) &&
         (i || j || eqb (element a) (element x))) (iota-at (position a) pa) (iota-at (position x) px)
-        ∙ regroup-follows (ltb (position a) (position x)) (binds (instructionAt q (position a)) (instructionAt q (position x))) (inOneStep (instructionAt q (position a)) || inOneStep (instructionAt q (position x)) || eqb (element a) (element x))
+        ∙ regroup-follows (ltb (position a) (position x)) (binds (instructionAt q (position a)) (instructionAt q (position x)))
+        (inOneStep (instructionAt q (position a)) || inOneStep (instructionAt q (position x)) || eqb (element a) (element x))
         ∙ sym (must-precede q vlr short a x sa sx)
 
     pub tables-verdict : (list : List ℕ) → verdictBy (size q) vlr iotas bound list ≡ verdictOf q vlr list

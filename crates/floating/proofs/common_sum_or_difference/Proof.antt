@@ -1,4 +1,4 @@
--- `floating::common_sum_or_difference` meets its contract. Assumes nothing.
+-- `common_sum_or_difference` meets its contract: by the sign with which the second is added, where neither is zero or reserved. Assumes nothing.
 use mathlib.Core.Path.{ap, _∙_}
 use Rattle.floating.specs.Format.{F}
 use Rattle.floating.specs.Operations.{answered}
@@ -10,7 +10,7 @@ use Rattle.floating.proofs.common_sum_or_difference.Tie as tie
 
 returns : tie.Need-returns
 returns c =
-    let a = c .before .before .args in
+    let s : tie.Start = search needs in let a = s .args in
     let t = c .before .sign-added in
     c .add-common .ensures ∙ ap (answered (a .exc)) (combined-sum F F-sound (a .a) (a .b) (a .minus) (t .result) (t .ensures .1))
 

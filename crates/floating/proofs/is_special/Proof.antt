@@ -1,4 +1,4 @@
--- `floating::is_special` meets its contract. Assumes nothing.
+-- `is_special` meets its contract: one of two words is zero or reserved where one of the exponents is 0. Assumes nothing.
 use Rattle.floating.specs.Format.{F}
 use Rattle.floating.proofs.Refusing.{special-tested}
 use borrow.Author.Needs.{needs}

@@ -1,4 +1,4 @@
--- `floating::read_longword` meets its contract. Assumes nothing.
+-- `read_longword` meets its contract: what is shown is the longword, whose bits are the word. Assumes nothing.
 use Rattle.floating.proofs.Shown.{shows-longword}
 use borrow.Author.Needs.{needs}
 use Rattle.floating.proofs.read_longword.Statement.{statement}

@@ -1,4 +1,4 @@
--- `floating::special_sum_or_difference` meets its contract. Assumes nothing.
+-- `special_sum_or_difference` meets its contract: by the sign with which the second is added, where one is zero or reserved. Assumes nothing.
 use mathlib.Core.Path.{ap, _∙_}
 use Rattle.floating.specs.Format.{F}
 use Rattle.floating.specs.Operations.{answered}
@@ -10,7 +10,7 @@ use Rattle.floating.proofs.special_sum_or_difference.Tie as tie
 
 returns : tie.Need-returns
 returns c = λ exc.
-    let a = c .before .before .args in
+    let s : tie.Start = search needs in let a = s .args in
     let t = c .before .sign-added in
     c .add-special .ensures exc ∙ ap (answered exc) (combined-sum F F-sound (a .a) (a .b) (a .minus) (t .result) (t .ensures .1))
 

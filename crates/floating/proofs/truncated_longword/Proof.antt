@@ -1,4 +1,4 @@
--- `floating::truncated_longword` meets its contract. Assumes nothing.
+-- `truncated_longword` meets its contract: no half is added before the fraction is cut off. Assumes nothing.
 use mathlib.Core.Path.{_∙_}
 use Rattle.floating.specs.Format.{F}
 use Rattle.floating.proofs.Converting.{by-none}

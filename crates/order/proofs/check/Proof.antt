@@ -42,14 +42,14 @@ begun : (c : AfterStart) → let a = entry-of c .args in Marked (a .n) (a .vlr) 
 begun c = let s = entry-of c in pass-starts _ _ _ (s .pre .0 .0) (s .pre .0 .1) _ (s .pre .1) _ _ (c .start .ensures)
 
 start-requires : tie.Need-start-requires Inv-loop μ-loop
-start-requires c κs = (refl, c .before .before .pre .0 .1)
+start-requires c κs = let s : Start = search needs in (refl, s .pre .0 .1)
 
 fill-requires : tie.Need-fill-requires Inv-loop μ-loop
 fill-requires c κs = let s : Start = search needs in (refl, s .pre .0 .0)
 
 ahead-requires : tie.Need-ahead-requires Inv-loop μ-loop
 ahead-requires c κs =
-    let f = c .before .before in let t = f .before .before in let s = entry-of t in
+    let t : AfterStart = search needs in let f : tie.After-fill Inv-loop μ-loop = search needs in let s = entry-of t in
     ((begun t .long, s .pre .0 .0, zero-le), (s .pre .1, (f .fill .ensures, begun t .sentinel-left)))
 
 loop-holds : tie.Need-loop-holds Inv-loop μ-loop
@@ -79,7 +79,7 @@ one c =
 
 ahead-requires-2 : tie.Need-ahead-requires-2 Inv-loop μ-loop
 ahead-requires-2 c κs =
-    let e = c .before .before in let s = entry (turn-of e .before) in let f : tie.After-fill Inv-loop μ-loop = search needs in
+    let e : Passed = search needs in let f : tie.After-fill Inv-loop μ-loop = search needs in let s : Start = search needs in
     ((one e .long, s .pre .0 .0, one e .on .inside), (s .pre .1, (f .fill .ensures, one e .sentinel-left)))
 
 loop-less : tie.Need-loop-less Inv-loop μ-loop
@@ -93,11 +93,11 @@ loop-again c =
     taken-marked _ _ _ (s .pre .0 .0) (s .pre .0 .1) _ (s .pre .1) _ _ _ (one e) _ _ (c .ahead2 .ensures)
 
 ended-requires : tie.Need-ended-requires Inv-loop μ-loop
-ended-requires c κs = entry (c .before .before) .pre .0 .0
+ended-requires c κs = let s : Start = search needs in s .pre .0 .0
 
 returns-2 : tie.Need-returns-2 Inv-loop μ-loop
 returns-2 c =
-    let out = c .before .before in let at = out .before in let s = entry at in
+    let at : AtLoop = search needs in let out : tie.After-loop Inv-loop μ-loop = search needs in let s = entry at in
     list-ends _ _ _ (s .pre .0 .0) (s .pre .0 .1) _ (s .pre .1) _ _ _ (at .loop .inv) (out .loop-test .left) _ (c .ended .ensures)
 
 pub check-spec : {M : Type 1} → statement M

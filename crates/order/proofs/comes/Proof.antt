@@ -18,18 +18,20 @@ iota-comes-requires c κs =
 
 returns-2 : tie.Need-returns-2
 returns-2 c =
-    let t : tie.Then2 = search needs in let b = t .before in let e = b .before in
-    may-by _ _ _ _ _ _ (e .if1 .left) _ true _ (b .bit .ensures) (t .if2 .taken) (c .iota-comes .ensures)
+    let e : tie.Else1 = search needs in let t : tie.Then2 = search needs in
+    may-by _ _ _ _ _ _ (e .if1 .left) _ true _ (t .before .bit .ensures) (t .if2 .taken) (c .iota-comes .ensures)
 
 returns-3 : tie.Need-returns-3
 returns-3 c =
-    let r = c .before in let i : tie.Else2 = search needs in let b = i .before in let e = b .before in let s = e .before in
-    refuses _ (not-due _ _ _ _ _ (s .pre .1) (s .pre .0) (e .if1 .left) (sym (b .bit .ensures) ∙ i .if2 .left) _ (r .due .ensures) (not-true _ (c .if3 .taken)))
+    let s : tie.Start = search needs in let e : tie.Else1 = search needs in let i : tie.Else2 = search needs in
+    let other = sym (i .before .bit .ensures) ∙ i .if2 .left in
+    refuses _ (not-due _ _ _ _ _ (s .pre .1) (s .pre .0) (e .if1 .left) other _ (c .before .due .ensures) (not-true _ (c .if3 .taken)))
 
 returns-4 : tie.Need-returns-4
 returns-4 c =
-    let r = c .before in let i : tie.Else2 = search needs in let b = i .before in let e = b .before in let s = e .before in
-    due-taken _ _ _ _ _ (s .pre .1) (s .pre .0) (e .if1 .left) (sym (b .bit .ensures) ∙ i .if2 .left) _ (r .due .ensures) (not-false _ (c .if3 .left))
+    let s : tie.Start = search needs in let e : tie.Else1 = search needs in let i : tie.Else2 = search needs in
+    let other = sym (i .before .bit .ensures) ∙ i .if2 .left in
+    due-taken _ _ _ _ _ (s .pre .1) (s .pre .0) (e .if1 .left) other _ (c .before .due .ensures) (not-false _ (c .if3 .left))
 
 pub comes-spec : {M : Type 1} → statement M
 comes-spec =

@@ -1,4 +1,4 @@
--- `due` meets its contract. Assumes nothing.
+-- `due` meets its contract: the position is left, and none that it is bound to is. Assumes nothing.
 use mathlib.Core.Path.{ap₂}
 use mathlib.Core.Bool.{Bool, _&&_}
 use borrow.Author.Needs.{needs}

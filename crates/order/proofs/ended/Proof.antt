@@ -27,18 +27,18 @@ loop-holds c = (search needs, none-waits (c .args .left .now) (c .args .n))
 
 returns : tie.Need-returns Inv-loop μ-loop
 returns c =
-    let a = c .before in let turn = a .before .before in let at = turn .before in let s = at .before in
-    one-waits _ _ _ (at .loop .j) (s .pre) (omega (arith, turn .loop-test .taken)) _ (a .apart .ensures) (not-true _ (c .if1 .taken))
+    let turn : tie.In-loop Inv-loop μ-loop = search needs in let at = turn .before in let s : tie.Start Inv-loop μ-loop = search needs in
+    one-waits _ _ _ (at .loop .j) (s .pre) (omega (arith, turn .loop-test .taken)) _ (c .before .apart .ensures) (not-true _ (c .if1 .taken))
 
 loop-again : tie.Need-loop-again Inv-loop μ-loop
 loop-again c =
-    let a = c .before in let at : tie.At-loop Inv-loop μ-loop = search needs in let s = at .before in
-    (search needs, no-more-waits _ _ (at .loop .j) (s .pre) (at .loop .inv .1) _ (a .apart .ensures) (not-false _ (c .if1 .left)))
+    let at : tie.At-loop Inv-loop μ-loop = search needs in
+    (search needs, no-more-waits _ _ (at .loop .j) (at .before .pre) (at .loop .inv .1) _ (c .before .apart .ensures) (not-false _ (c .if1 .left)))
 
 returns-2 : tie.Need-returns-2 Inv-loop μ-loop
 returns-2 c =
-    let at = c .before in let s = at .before in let done = c .loop-test .left in let near = at .loop .inv .0 in
-    all-come (s .args .left .now) (s .args .n) (s .args .entries) (at .loop .j) (omega arith) (at .loop .inv .1)
+    let at : tie.At-loop Inv-loop μ-loop = search needs in let a = at .before .args in let done = c .loop-test .left in let near = at .loop .inv .0 in
+    all-come (a .left .now) (a .n) (a .entries) (at .loop .j) (omega arith) (at .loop .inv .1)
 
 pub ended-spec : {M : Type 1} → statement M
 ended-spec =

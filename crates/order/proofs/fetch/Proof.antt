@@ -1,4 +1,4 @@
--- `fetch` meets its contract. Assumes nothing.
+-- `fetch` meets its contract: the set that is kept is that of its element, and any other is read. Assumes nothing.
 use mathlib.Core.Path.{refl, sym, ap, _∙_}
 use Prim.Native.Nat.{ℕ}
 use borrow.Author.Needs.{needs}

@@ -20,8 +20,8 @@ loop-holds c = (search needs, refl, fill-none _ _ _ (search needs))
 
 loop-again : tie.Need-loop-again Inv-loop μ-loop
 loop-again c =
-    let at : tie.At-loop Inv-loop μ-loop = search needs in let i = at .loop .inv in let few = at .before .pre .1 in
-    let in-queue = c .before .before .loop-test .taken in (
+    let at : tie.At-loop Inv-loop μ-loop = search needs in let turn : tie.In-loop Inv-loop μ-loop = search needs in
+    let i = at .loop .inv in let few = at .before .pre .1 in let in-queue = turn .loop-test .taken in (
       search needs,
       doubled (at .loop .own) (at .loop .p) (omega arith) (i .1),
       fill-more _ _ _ _ _ (i .2) (search needs)

@@ -1,4 +1,4 @@
--- `group` meets its contract. Assumes nothing.
+-- `group` meets its contract: an IOTA has the sentinel for its group, any other itself and those that it is bound to. Assumes nothing.
 use mathlib.Core.Path.{sym, _∙_}
 use borrow.Author.Needs.{needs}
 use Rattle.numbers.proofs.Tests.{pick-true, pick-false}

@@ -1,4 +1,4 @@
--- `iota_comes` meets its contract. Assumes nothing.
+-- `iota_comes` meets its contract: of element 0 alone, where it is due over all elements, and it then leaves each set. Assumes nothing.
 use mathlib.Core.Path.{sym, _∙_}
 use borrow.Author.Needs.{needs}
 use borrow.Author.Tests.{not-true, not-false}
@@ -12,17 +12,16 @@ returns c = refuses _ (iota-not _ _ (c .if1 .taken))
 
 returns-2 : tie.Need-returns-2
 returns-2 c =
-    let r = c .before in let a = r .before in let z = a .before .before in let s = z .before .args in
-    refuses _ (sym (iota-tested (element (s .x)) (s .bound) _ (position (s .x)) (s .left .now) _ (z .if1 .left) (a .somewhere .ensures) (r .due .ensures))
-    ∙ not-true _ (c .if2 .taken))
+    let z : tie.Else1 = search needs in let a : tie.After-somewhere = search needs in let s = z .before .args in
+    let tested = iota-tested (element (s .x)) (s .bound) _ (position (s .x)) (s .left .now) _ (z .if1 .left) (a .somewhere .ensures) in
+    refuses _ (sym (tested (c .before .due .ensures)) ∙ not-true _ (c .if2 .taken))
 
 returns-3 : tie.Need-returns-3
 returns-3 c =
-    let e = c .before .before in let r = e .before in let a = r .before in let z = a .before .before in let s = z .before .args in (
-      sym (not-false _ (e .if2 .left)) ∙ iota-tested (element (s .x)) (s .bound) _ (position (s .x)) (s .left .now) _ (z .if1 .left) (a .somewhere .ensures)
-          (r .due .ensures),
-      λ f. iota-struck _ _ _ (z .before .pre .0) (c .release .ensures),
-    )
+    let z : tie.Else1 = search needs in let a : tie.After-somewhere = search needs in let s = z .before .args in
+    let e : tie.Else2 = search needs in
+    let tested = iota-tested (element (s .x)) (s .bound) _ (position (s .x)) (s .left .now) _ (z .if1 .left) (a .somewhere .ensures) in
+    (sym (not-false _ (e .if2 .left)) ∙ tested (e .before .due .ensures), λ f. iota-struck _ _ _ (z .before .pre .0) (c .release .ensures))
 
 pub iota-comes-spec : {M : Type 1} → statement M
 iota-comes-spec =

@@ -1,4 +1,4 @@
--- `pair` meets its contract. Assumes nothing.
+-- `pair` meets its contract: none, one or two entries are taken. Assumes nothing.
 use mathlib.Core.Path.{_≡_, refl, sym, subst}
 use mathlib.Core.List.{List}
 use Prim.Native.Nat.{ℕ, _+_}
@@ -15,7 +15,7 @@ abbrev entry : tie.After-passes → tie.Start
 entry c = search needs
 
 abbrev first : tie.Else1 → tie.After-passes
-first c = c .before .before
+first c = search needs
 
 abbrev second : tie.After-passes2 → tie.Else1
 second c = search needs
@@ -40,13 +40,13 @@ passes-requires c κs =
 
 returns : tie.Need-returns
 returns c =
-    let v = c .before .before in let s = entry v in let a = s .args in
+    let v : tie.After-passes = search needs in let s = entry v in let a = s .args in
     subst (λ (l : List ℕ). StretchTaken (a .n) (a .iotas) (a .bound .now) (a .list .now) (a .left .now) (a .i) l (a .i))
     (sym (v .passes .ensures .0 .same (not-true _ (c .if1 .taken)))) (none s .so-far)
 
 passes-requires-2 : tie.Need-passes-requires-2
 passes-requires-2 c κs =
-    let e = c .before .before in let v = first e in let s = entry v in
+    let e : tie.Else1 = search needs in let v = first e in let s = entry v in
     ((one e .long, s .pre .0 .1, v .passes .ensures .1), (s .pre .1 .0, (s .pre .1 .1 .0, one e .stays)))
 
 add-result : tie.Need-add-result
@@ -54,7 +54,7 @@ add-result c = let s : tie.Start = search needs in omega (arith, s .pre .0 .2, s
 
 returns-2 : tie.Need-returns-2
 returns-2 c =
-    let w = c .before .before in let e = second w in let a = entry (first e) .args in
+    let w : tie.After-passes2 = search needs in let e = second w in let a = entry (first e) .args in
     subst (λ (l : List ℕ). StretchTaken (a .n) (a .iotas) (a .bound .now) (a .list .now) (a .left .now) (a .i) l (a .i + 1))
     (sym (w .passes2 .ensures .0 .same (not-true _ (c .if2 .taken)))) (one e .so-far)
 
@@ -63,7 +63,7 @@ add-result-2 c = let s : tie.Start = search needs in omega (arith, s .pre .0 .2,
 
 returns-3 : tie.Need-returns-3
 returns-3 c =
-    let w = c .before .before in let e = second w in let s = entry (first e) in let room = s .pre .0 .2 in
+    let w : tie.After-passes2 = search needs in let e = second w in let s = entry (first e) in let room = s .pre .0 .2 in
     let two = goes-on _ _ _ _ _ _ _ _ _ (s .pre .0 .1) (one e) (omega arith) (w .passes2 .ensures .0 .taken (not-false _ (c .if2 .left))) in
     let a = s .args in let there : a .i + 1 + 1 ≡ a .i + 2 = omega arith in
     subst (StretchTaken (a .n) (a .iotas) (a .bound .now) (a .list .now) (a .left .now) (a .i) (w .passes2 .last .0)) there (two .so-far)

@@ -20,12 +20,12 @@ loop-holds c = (search needs, swept-none _ _ _)
 
 loop-again : tie.Need-loop-again Inv-loop μ-loop
 loop-again c =
-    let at = c .before .before in let s = at .before in
+    let at : tie.At-loop Inv-loop μ-loop = search needs in let s = at .before in
     (search needs, leaves-each _ _ _ _ (s .pre .0) (s .pre .1) (search needs) (at .loop .inv .1))
 
 returns : tie.Need-returns Inv-loop μ-loop
 returns c =
-    let at = c .before in
+    let at : tie.At-loop Inv-loop μ-loop = search needs in
     (at .loop .inv .1 .long ∙ at .before .pre .0, λ e h. at .loop .inv .1 .written e (omega arith) (omega arith))
 
 pub release-spec : {M : Type 1} → statement M

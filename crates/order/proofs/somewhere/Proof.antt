@@ -1,4 +1,4 @@
--- `somewhere` meets its contract. Assumes nothing.
+-- `somewhere` meets its contract: after e turns it has what the first e elements wait for. Assumes nothing.
 use mathlib.Core.Path.{_≡_, refl, ap, _∙_}
 use Prim.Native.Nat.{_≤_, _-_}
 use native.Mathlib.Omega.{arith}
@@ -19,7 +19,7 @@ unfolding somewhere
 loop-holds c = (search needs, refl)
 
 loop-again : tie.Need-loop-again Inv-loop μ-loop
-loop-again c = (search needs, somewhere-more _ _ _ (c .before .before .loop .inv .1))
+loop-again c = let at : tie.At-loop Inv-loop μ-loop = search needs in (search needs, somewhere-more _ _ _ (at .loop .inv .1))
 
 returns : tie.Need-returns Inv-loop μ-loop
 returns c = let same : c .before .loop .e ≡ 64 = omega arith in c .before .loop .inv .1 ∙ ap (somewhere _) same

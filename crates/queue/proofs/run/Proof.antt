@@ -2,26 +2,29 @@
 use mathlib.Core.Path.{sym, _∙_}
 use borrow.Author.Needs.{needs}
 use borrow.Author.Tests.{not-true, not-false}
-use Rattle.touch.specs.Parts.{queue}
 use Rattle.queue.proofs.Calls.{through-meets, run-refused, run-done}
 use Rattle.queue.proofs.run.Statement.{statement}
 use Rattle.queue.proofs.run.Tie as tie
 
 returns : tie.Need-returns
 returns c =
-    let e = c .before in let a = e .before .before in
-    run-refused _ _ _ (a .accept .result .answer) (a .accept .ensures .answered) (sym (e .before .is-done .ensures) ∙ not-true _ (e .if1 .taken)) (c .refused .result) (c .refused .ensures)
+    let a : tie.After-accept = search needs in let t : tie.Then1 = search needs in
+    run-refused _ _ _ (a .accept .result .answer) (a .accept .ensures .answered) (sym (t .before .is-done .ensures) ∙ not-true _ (t .if1 .taken))
+    (c .refused .result) (c .refused .ensures)
 
 straight-requires : tie.Need-straight-requires
 straight-requires c κs =
-    let e : tie.Else1 = search needs in let a = e .before .before in let start : tie.Start = search needs in let s = start .args in
-    let q = queue (s .opcodes .now) (s .cntrls .now) (s .scalars .now) in let fine = sym (e .before .is-done .ensures) ∙ not-false _ (e .if1 .left) in
-    through-meets q (s .elements .now) _ (a .accept .result .answer) (a .accept .ensures .answered) fine (a .accept .result .program) (a .accept .ensures .decoded fine) _ (c .begin .ensures)
+    let e : tie.Else1 = search needs in let a : tie.After-accept = search needs in let s : tie.Start = search needs in
+    let fine = sym (e .before .is-done .ensures) ∙ not-false _ (e .if1 .left) in
+    through-meets _ (s .args .elements .now) _ _ (a .accept .ensures .answered) fine (a .accept .result .program) (a .accept .ensures .decoded fine) _
+    (c .begin .ensures)
 
 returns-2 : tie.Need-returns-2
 returns-2 c =
-    let b = c .before .before in let e : tie.Else1 = search needs in let a = e .before .before in let fine = sym (e .before .is-done .ensures) ∙ not-false _ (e .if1 .left) in
-    run-done _ _ _ (a .accept .result .answer) (a .accept .ensures .answered) fine (a .accept .result .program) (a .accept .ensures .decoded fine) _ _ _ _ (b .begin .ensures) (c .end .ensures) (c .before .straight .ensures)
+    let b : tie.After-begin = search needs in let e : tie.Else1 = search needs in let a : tie.After-accept = search needs in
+    let fine = sym (e .before .is-done .ensures) ∙ not-false _ (e .if1 .left) in
+    run-done _ _ _ _ (a .accept .ensures .answered) fine (a .accept .result .program) (a .accept .ensures .decoded fine) _ _ _ _ (b .begin .ensures)
+    (c .end .ensures) (c .before .straight .ensures)
 
 pub run-spec : {M : Type 1} → statement M
 run-spec =

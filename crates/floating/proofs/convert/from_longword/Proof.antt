@@ -1,4 +1,4 @@
--- `floating::convert::from_longword` meets its contract. Assumes nothing.
+-- `from_longword` meets its contract: zero gives zero, and any other longword the word of its sign and size. Assumes nothing.
 use Rattle.floating.proofs.Converting.{longword-none, longword-some, size-in}
 use borrow.Author.Needs.{needs}
 use Rattle.floating.proofs.convert.from_longword.Statement.{statement}
@@ -9,10 +9,8 @@ returns c = search (longword-none, needs)
 
 word-of-size-requires : tie.Need-word-of-size-requires
 word-of-size-requires c κs =
-    let tested = c .before .before in
-    let l = tested .before .args .l in
-    let n =
-    size-in l (c .before .wide .result) (c .size-of .result) (search needs) (tested .if1 .left) (c .before .wide .ensures) (c .size-of .ensures) in
+    let e : tie.Else1 = search needs in
+    let n = size-in (e .before .args .l) _ _ (search needs) (e .if1 .left) (c .before .wide .ensures) (c .size-of .ensures) in
     (search needs, n .0, n .1)
 
 returns-2 : tie.Need-returns-2

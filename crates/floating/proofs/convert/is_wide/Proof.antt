@@ -1,4 +1,4 @@
--- `floating::convert::is_wide` meets its contract. Assumes nothing.
+-- `is_wide` meets its contract: the size is past 2 ^ 31 - 1, or with the sign 1 past 2 ^ 31. Assumes nothing.
 use mathlib.Core.Path.{ap, _∙_}
 use Prim.Native.Nat.{ℕ, _+_}
 use lib.Dec.{ltb}

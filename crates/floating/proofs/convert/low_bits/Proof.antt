@@ -1,4 +1,4 @@
--- `floating::convert::low_bits` meets its contract. Assumes nothing.
+-- `low_bits` meets its contract: the low 32 bits of n, or with the sign 1 of minus n. Assumes nothing.
 use Rattle.floating.proofs.Converting.{low-bits-made}
 use borrow.Author.Needs.{needs}
 use Rattle.floating.proofs.convert.low_bits.Statement.{statement}

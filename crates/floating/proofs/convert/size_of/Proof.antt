@@ -1,4 +1,4 @@
--- `floating::convert::size_of` meets its contract. Assumes nothing.
+-- `size_of` meets its contract: the longword itself, or with the sign 1 what it lacks of 2 ^ 32. Assumes nothing.
 use borrow.Author.Tests.{eq-eqb, ne-eqb}
 use borrow.Author.Needs.{needs}
 use Rattle.floating.proofs.convert.size_of.Statement.{statement}

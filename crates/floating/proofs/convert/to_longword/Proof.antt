@@ -1,4 +1,4 @@
--- `floating::convert::to_longword` meets its contract. Assumes nothing.
+-- `to_longword` meets its contract: by the exponent field: 0, up to F_UNIT, and above. Assumes nothing.
 use Rattle.floating.specs.Format.{F}
 use Rattle.floating.proofs.Converting.{source-none, source-below, source-above, narrow-made, record-made}
 use borrow.Author.Needs.{needs}
@@ -10,32 +10,25 @@ returns c = search (source-none F, needs)
 
 returns-2 : tie.Need-returns-2
 returns-2 c =
+    let a : tie.Start = search needs in
+    let s : tie.After-sign-of = search needs in
     let n = c .before .whole-below in
-    let tested = c .before .before in
-    let zero = tested .before .before in
-    let signed = zero .before in
-    let s = signed .sign-of in
-    let a = signed .before .before .args in
-    let v = narrow-made (a .exc) (s .result) (n .result) (c .low-bits .result) (search needs) (search needs) (c .low-bits .ensures) in
+    let v = narrow-made (a .args .exc) (s .sign-of .result) (n .result) (c .low-bits .result) (search needs) (search needs) (c .low-bits .ensures) in
     search (source-below F, needs)
 
 returns-3 : tie.Need-returns-3
 returns-3 c =
-    let wide = c .before .is-wide in
-    let cut = c .before .before in
-    let low = cut .low-bits2 in
-    let n = cut .before .whole-above in
-    let tested = cut .before .before in
-    let m = tested .before .significand-of in
-    let zero = tested .before .before in
-    let s = zero .before .sign-of in
-    let first = zero .before .before in
-    let e = first .exponent-of in
-    let a = first .before .args in
-    source-above F (a .exc) (a .word) (a .halves) (search needs) _ (e .result) (m .result) (s .result) (n .result) (e .ensures) (zero .if1 .left)
-    (m .ensures) (s .ensures)
-    (record-made (a .exc) (wide .result) (s .result) (n .result) (low .result) (c .chosen .result) (wide .ensures) (low .ensures) (c .chosen .ensures))
-    (search needs) (n .ensures)
+    let start : tie.Start = search needs in let a = start .args in
+    let e : tie.After-exponent-of = search needs in
+    let s : tie.After-sign-of = search needs in
+    let zero : tie.Else1 = search needs in
+    let m : tie.After-significand-of = search needs in
+    let n : tie.After-whole-above = search needs in
+    let low : tie.After-low-bits2 = search needs in
+    source-above F (a .exc) (a .word) (a .halves) (search needs) _ _ _ _ _ (e .exponent-of .ensures) (zero .if1 .left) (m .significand-of .ensures)
+    (s .sign-of .ensures)
+    (record-made (a .exc) _ (s .sign-of .result) (n .whole-above .result) _ _ (c .before .is-wide .ensures) (low .low-bits2 .ensures) (c .chosen .ensures))
+    (search needs) (n .whole-above .ensures)
 
 pub to-longword-spec : {M : Type 1} → statement M
 to-longword-spec =

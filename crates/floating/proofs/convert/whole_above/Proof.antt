@@ -1,4 +1,4 @@
--- `floating::convert::whole_above` meets its contract. Assumes nothing.
+-- `whole_above` meets its contract: the number itself, or 2 ^ 32, which stands for what is moved up by 32 places and more. Assumes nothing.
 use native.Mathlib.Omega.{arith}
 use Prim.Native.Nat.{_+_, _-_}
 use Rattle.floating.specs.Format.{F}
@@ -9,7 +9,7 @@ use Rattle.floating.proofs.convert.whole_above.Tie as tie
 
 mul-result : tie.Need-mul-result
 mul-result c =
-    let a = c .before .before .args in
+    let s : tie.Start = search needs in let a = s .args in
     omega (arith, moved-up (F .bits) (a .m) (c .power .result) (a .e - (F .bits + F .excess)) (omega arith) (c .power .ensures) (omega arith))
 
 returns : tie.Need-returns

@@ -1,4 +1,4 @@
--- `floating::convert::whole_below` meets its contract. Assumes nothing.
+-- `whole_below` meets its contract: twice the number is cut down, halves is added, and half of that is the number made whole. Assumes nothing.
 use native.Mathlib.Omega.{arith}
 use Rattle.floating.proofs.Align.{cut-small}
 use Rattle.floating.proofs.Converting.{cut-whole}

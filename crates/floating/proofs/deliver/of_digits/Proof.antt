@@ -1,4 +1,4 @@
--- `floating::deliver::of_digits` meets its contract. Assumes nothing.
+-- `of_digits` meets its contract: digits moved up to 64 and rounded deliver what the number does. Assumes nothing.
 use mathlib.Core.Path.{ap, _∙_}
 use Prim.Native.Nat.{ℕ, _-_, _^_}
 use lib.Dec.{lit<, lit≤}
@@ -12,15 +12,14 @@ use Rattle.floating.proofs.deliver.of_digits.Tie as tie
 
 returns : tie.Need-returns
 returns c =
-    let m = c .before .near-of in
-    let moved = c .before .before in
-    let y = moved .raised in
-    let z = moved .before .zeros-of in
-    let a = moved .before .before .args in
-    let rounds = m .ensures .0 ∙ ap (λ (v : ℕ). near v (2 ^ (64 - F .bits))) (y .ensures) in
+    let s : tie.Start = search needs in let a = s .args in
+    let z : tie.After-zeros-of = search needs in
+    let y : tie.After-raised = search needs in
+    let m = c .before .near-of in let e = z .zeros-of .ensures in
+    let rounds = m .ensures .0 ∙ ap (λ (v : ℕ). near v (2 ^ (64 - F .bits))) (y .raised .ensures) in
     c .judged .ensures
     ∙ ap (answered (a .exc))
-    (placed-settled F 64 (a .s) (a .x) (a .e) (a .down) (z .result) (m .result) (lit< tt) (lit≤ tt) (z .ensures .1) (z .ensures .2) rounds)
+    (placed-settled F 64 (a .s) (a .x) (a .e) (a .down) (z .zeros-of .result) (m .result) (lit< tt) (lit≤ tt) (e .1) (e .2) rounds)
 
 pub of-digits-spec : {M : Type 1} → statement M
 of-digits-spec =

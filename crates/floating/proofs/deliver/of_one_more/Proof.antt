@@ -1,4 +1,4 @@
--- `floating::deliver::of_one_more` meets its contract. Assumes nothing.
+-- `of_one_more` meets its contract: one digit more than are kept, rounded, delivers what the number does. Assumes nothing.
 use mathlib.Core.Path.{ap, _∙_}
 use Prim.Native.Nat.{_+_}
 use lib.Dec.{lit<, lit≤}
@@ -11,8 +11,8 @@ use Rattle.floating.proofs.deliver.of_one_more.Tie as tie
 
 returns : tie.Need-returns
 returns c =
+    let s : tie.Start = search needs in let a = s .args in
     let m = c .before .nearest in
-    let a = c .before .before .args in
     c .judged .ensures
     ∙ ap (answered (a .exc))
     (placed-here F (F .bits + 1) (a .s) (a .x) (a .e) (a .down) (m .result) (lit< tt) (lit≤ tt) (search needs) (search needs) (m .ensures .0))

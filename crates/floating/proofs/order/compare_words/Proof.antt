@@ -1,4 +1,4 @@
--- `floating::order::compare_words` meets its contract. Assumes nothing.
+-- `compare_words` meets its contract: a reserved operand clears the bit, and any other two words are compared by their values. Assumes nothing.
 use Rattle.floating.specs.Format.{F}
 use Rattle.floating.proofs.Ordering.{compare-left, compare-right, compare-both}
 use borrow.Author.Needs.{needs}

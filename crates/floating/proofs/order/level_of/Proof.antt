@@ -1,4 +1,4 @@
--- `floating::order::level_of` meets its contract. Assumes nothing.
+-- `level_of` meets its contract: the halves exchanged are sign, exponent and fraction in a row, and zero has 0. Assumes nothing.
 use Rattle.floating.proofs.Ordering.{level-made}
 use borrow.Author.Needs.{needs}
 use Rattle.floating.proofs.order.level_of.Statement.{statement}

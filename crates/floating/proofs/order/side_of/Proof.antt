@@ -1,4 +1,4 @@
--- `floating::order::side_of` meets its contract. Assumes nothing.
+-- `side_of` meets its contract: levels rise with the numbers, and fall where one is negative. Assumes nothing.
 use native.Mathlib.Omega.{arith}
 use Rattle.floating.specs.Format.{F}
 use Rattle.floating.proofs.Packing.{F-sound}
@@ -7,19 +7,11 @@ use borrow.Author.Needs.{needs}
 use Rattle.floating.proofs.order.side_of.Statement.{statement}
 use Rattle.floating.proofs.order.side_of.Tie as tie
 
-add-rising : tie.Need-add-rising
-add-rising c =
-    let second = c .before .before in
-    let x = second .before .level-of .result in
-    let most = rising-most x (second .level-of2 .result) (c .before .chosen .result) (c .chosen2 .result) (c .before .chosen .ensures) (c .chosen2 .ensures) in
-    omega arith
-
 sub-chosen : tie.Need-sub-chosen
-sub-chosen c =
-    let second = c .before .before in
-    let x = second .before .level-of .result in
-    let most = rising-most x (second .level-of2 .result) (c .before .chosen .result) (c .chosen2 .result) (c .before .chosen .ensures) (c .chosen2 .ensures) in
-    most
+sub-chosen c = search (rising-most, needs)
+
+add-rising : tie.Need-add-rising
+add-rising c = let most = sub-chosen c in omega arith
 
 returns : tie.Need-returns
 returns c = search (side-found F F-sound, needs)

@@ -1,4 +1,4 @@
--- `floating::product::multiply_special` meets its contract. Assumes nothing.
+-- `multiply_special` meets its contract: a reserved factor is recorded, and a zero one makes zero. Assumes nothing.
 use Rattle.floating.specs.Format.{F}
 use Rattle.floating.proofs.Products.{special-product}
 use Rattle.floating.proofs.Refusing.{some-zero}
@@ -8,12 +8,9 @@ use Rattle.floating.proofs.product.multiply_special.Tie as tie
 
 returns : tie.Need-returns
 returns c =
-    let second = c .before .before in
-    let first = second .before in
-    let start = first .before in
-    let a = start .args in
-    special-product F (a .a) (a .b) _ _ _ _ (some-zero F (a .a) (a .b) (start .pre)) (first .is-reserved .ensures) (second .is-reserved2 .ensures)
-    (c .before .chosen .ensures) (c .chosen2 .ensures)
+    let s : tie.Start = search needs in let a = s .args in
+    let zero = some-zero F (a .a) (a .b) (s .pre) in
+    search (special-product F, needs)
 
 pub multiply-special-spec : {M : Type 1} → statement M
 multiply-special-spec =

@@ -1,4 +1,4 @@
--- `floating::product::whole_product` meets its contract. Assumes nothing.
+-- `whole_product` meets its contract: the product of two significands has twice their digits, or one less. Assumes nothing.
 use borrow.Author.Needs.{needs}
 use native.Mathlib.Omega.{arith}
 use Rattle.floating.specs.Format.{F}

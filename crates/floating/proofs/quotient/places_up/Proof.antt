@@ -1,4 +1,4 @@
--- `floating::quotient::places_up` meets its contract. Assumes nothing.
+-- `places_up` meets its contract: moved up so far the quotient has one digit more than are kept. Assumes nothing.
 use lib.Dec.{lit<}
 use borrow.Author.Needs.{needs}
 use Rattle.floating.specs.Format.{F}

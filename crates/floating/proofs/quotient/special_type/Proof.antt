@@ -1,4 +1,4 @@
--- `floating::quotient::special_type` meets its contract. Assumes nothing.
+-- `special_type` meets its contract: the type is chosen by the three tests. Assumes nothing.
 use borrow.Author.Needs.{needs}
 use Rattle.floating.proofs.Quotients.{type-told}
 use Rattle.floating.proofs.quotient.special_type.Statement.{statement}
@@ -6,13 +6,12 @@ use Rattle.floating.proofs.quotient.special_type.Tie as tie
 
 returns : tie.Need-returns
 returns c =
-    let z = c .before in
-    let o = z .before in
-    let q = o .before in
-    let y = q .before in
-    let x = y .before in
-    let p = x .before in
-    let told = type-told _ _ _ _ _ _ (p .is-reserved .ensures) (q .is-reserved2 .ensures) (z .is-zero .ensures) in
+    let p : tie.After-is-reserved = search needs in
+    let x : tie.After-chosen = search needs in
+    let y : tie.After-chosen2 = search needs in
+    let q : tie.After-is-reserved2 = search needs in
+    let o : tie.After-chosen3 = search needs in
+    let told = type-told _ _ _ _ _ _ (p .is-reserved .ensures) (q .is-reserved2 .ensures) (c .before .is-zero .ensures) in
     told _ _ _ _ (x .chosen .ensures) (y .chosen2 .ensures) (o .chosen3 .ensures) (c .chosen4 .ensures)
 
 pub special-type-spec : {M : Type 1} → statement M

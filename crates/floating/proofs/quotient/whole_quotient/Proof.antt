@@ -1,4 +1,4 @@
--- `floating::quotient::whole_quotient` meets its contract. Assumes nothing.
+-- `whole_quotient` meets its contract: the whole part of the quotient has one digit more than are kept. Assumes nothing.
 use borrow.Author.Needs.{needs}
 use mathlib.Core.Path.{refl}
 use Prim.Native.Nat.{_*_, _^_}

@@ -1,4 +1,4 @@
--- `floating::read::bits_of` meets its contract. Assumes nothing.
+-- `bits_of` meets its contract: the bits are a binary64 number's, a longword's or the code. Assumes nothing.
 use Rattle.floating.proofs.Signed.{longword-bits}
 use borrow.Author.Needs.{needs}
 use Rattle.floating.proofs.read.bits_of.Statement.{statement}

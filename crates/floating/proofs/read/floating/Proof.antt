@@ -1,4 +1,4 @@
--- `floating::read::floating` meets its contract. Assumes nothing.
+-- `floating` meets its contract: a word is shown as a reserved operand, as zero or as its number. Assumes nothing.
 use Rattle.floating.specs.Format.{F}
 use Rattle.floating.proofs.Shown.{shows-reserved, shows-zero, shows-number}
 use borrow.Author.Needs.{needs}

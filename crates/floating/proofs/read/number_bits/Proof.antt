@@ -1,4 +1,4 @@
--- `floating::read::number_bits` meets its contract. Assumes nothing.
+-- `number_bits` meets its contract: a number that equals itself hands out its bits, and a NaN has those of the one NaN. Assumes nothing.
 use Rattle.floating.proofs.Signed.{not-nan, nan-bits}
 use borrow.Author.Needs.{needs}
 use Rattle.floating.proofs.read.number_bits.Statement.{statement}

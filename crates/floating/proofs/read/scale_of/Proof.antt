@@ -1,4 +1,4 @@
--- `floating::read::scale_of` meets its contract. Assumes nothing.
+-- `scale_of` meets its contract: the bits are those of a power of two with the sign. Assumes nothing.
 use Prim.Native.Nat.{_+_, _-_}
 use native.Mathlib.Omega.{arith}
 use Rattle.floating.specs.Format.{F}

@@ -1,4 +1,4 @@
--- `floating::read::signed` meets its contract. Assumes nothing.
+-- `signed` meets its contract: a number below 2 ^ 31 is itself, and from there on it is two's complement. Assumes nothing.
 use Rattle.floating.proofs.Shown.{below-fits, below-is}
 use borrow.Author.Needs.{needs}
 use Rattle.floating.proofs.read.signed.Statement.{statement}

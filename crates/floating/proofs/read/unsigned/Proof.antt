@@ -1,4 +1,4 @@
--- `floating::read::unsigned` meets its contract. Assumes nothing.
+-- `unsigned` meets its contract: a number from zero on is itself, and one below has the bits of its two's complement. Assumes nothing.
 use Rattle.floating.proofs.Signed.{from-zero, below-zero, Complemented}
 use mathlib.Core.Path.{_≡_}
 use lib.Dec.{T}

@@ -1,4 +1,4 @@
--- `floating::round::cut_down` meets its contract. Assumes nothing.
+-- `cut_down` meets its contract: a number is cut by d places, or by so many that nothing of it is left. Assumes nothing.
 use Rattle.floating.proofs.Align.{cut-few, cut-off}
 use borrow.Author.Needs.{needs}
 use Rattle.floating.proofs.round.cut_down.Statement.{statement}

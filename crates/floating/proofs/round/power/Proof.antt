@@ -1,4 +1,4 @@
--- `floating::round::power` meets its contract. Assumes nothing.
+-- `power` meets its contract: 1 moved up by k places is 2 ^ k. Assumes nothing.
 use borrow.Author.Needs.{needs}
 use Rattle.floating.proofs.Align.{one-shl}
 use Rattle.floating.proofs.round.power.Statement.{statement}

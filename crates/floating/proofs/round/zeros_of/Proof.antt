@@ -1,4 +1,4 @@
--- `floating::round::zeros_of` meets its contract. Assumes nothing.
+-- `zeros_of` meets its contract: moved up by its leading zeros a number has 64 digits. Assumes nothing.
 use native.Mathlib.Omega.{arith}
 use Prim.Native.Nat.{_<_}
 use Rattle.floating.proofs.Align.{zeros-few, digits-low, digits-high}

@@ -1,4 +1,4 @@
--- `floating::sum::add_common` meets its contract. Assumes nothing.
+-- `add_common` meets its contract: two words are added by their signs and magnitudes. Assumes nothing.
 use mathlib.Core.Path.{ap, _∙_}
 use Rattle.floating.specs.Format.{F}
 use Rattle.floating.specs.Operations.{answered}
@@ -11,23 +11,20 @@ use Rattle.floating.proofs.sum.add_common.Tie as tie
 
 add-sizes-requires : tie.Need-add-sizes-requires
 add-sizes-requires c κs =
-    let first = c .before in
-    let start = first .before .before in
-    let n = none-zero F _ _ (start .pre .1) in
-    let x = magnitude-in _ _ (first .magnitude-of .ensures) (n .0) in
+    let s : tie.Start = search needs in
+    let n = none-zero F _ _ (s .pre .1) in
+    let x = magnitude-in _ _ (c .before .magnitude-of .ensures) (n .0) in
     let y = magnitude-in _ _ (c .magnitude-of2 .ensures) (n .1) in
     (search needs, search needs, x .0, x .1, y .0, y .1)
 
 returns : tie.Need-returns
 returns c =
-    let second = c .before in
-    let first = second .before in
-    let signed = first .before in
-    let start = signed .before in
-    let a = start .args in
-    let n = none-zero F _ _ (start .pre .1) in
+    let s : tie.Start = search needs in let a = s .args in
+    let t : tie.After-sign-of = search needs in
+    let x : tie.After-magnitude-of = search needs in
+    let n = none-zero F _ _ (s .pre .1) in
     let whole =
-    words-combined F F-sound _ (a .a) (a .t) (a .b) _ _ (signed .sign-of .ensures) (first .magnitude-of .ensures) (second .magnitude-of2 .ensures) in
+    words-combined F F-sound _ (a .a) (a .t) (a .b) _ _ (t .sign-of .ensures) (x .magnitude-of .ensures) (c .before .magnitude-of2 .ensures) in
     c .add-sizes .ensures ∙ ap (answered (a .exc)) (whole (n .0) (n .1))
 
 pub add-common-spec : {M : Type 1} → statement M

@@ -1,4 +1,4 @@
--- `floating::sum::add_ordered` meets its contract. Assumes nothing.
+-- `add_ordered` meets its contract: the aligned digits are zero, or they deliver the sum or the difference. Assumes nothing.
 use mathlib.Core.Path.{ap, _∙_}
 use lib.Dec.{lit<, lit≤}
 use Rattle.floating.specs.Format.{F}
@@ -11,40 +11,32 @@ use Rattle.floating.proofs.sum.add_ordered.Tie as tie
 
 aligned-requires : tie.Need-aligned-requires
 aligned-requires c κs =
-    let b = c .before .wide2 in
-    let before-b = c .before .before in
-    let a = before-b .wide in
-    let told = before-b .before .args in
-    let small = ordered-asked F (told .k) (told .l) (a .result) (b .result) (search needs) (a .ensures) (b .ensures) in
+    let s : tie.Start = search needs in
+    let a : tie.After-wide = search needs in
+    let small = ordered-asked F (s .args .k) (s .args .l) _ _ (search needs) (a .wide .ensures) (c .before .wide2 .ensures) in
     (search needs, search needs, search needs, search needs, search needs, small)
 
 returns : tie.Need-returns
 returns c =
-    let x = c .before .aligned in
-    let before-x = c .before .before in
-    let o = before-x .wide3 in
-    let b = before-x .before .wide2 in
-    let before-b = before-x .before .before in
-    let a = before-b .wide in
-    let told = before-b .before .args in
+    let s : tie.Start = search needs in let told = s .args in
+    let a : tie.After-wide = search needs in
+    let b : tie.After-wide2 = search needs in
+    let o : tie.After-wide3 = search needs in
     answer-word (told .exc) _ 0
-    (ordered-none F (told .k) (told .l) (a .result) (b .result) (search needs) (a .ensures) (b .ensures) (told .o) (o .result) (x .result) (lit< tt)
-    (o .ensures) (x .ensures) (told .s) (c .if1 .taken))
+    (ordered-none F (told .k) (told .l) _ _ (search needs) (a .wide .ensures) (b .wide2 .ensures) (told .o) _ _ (lit< tt) (o .wide3 .ensures)
+    (c .before .aligned .ensures) (told .s) (c .if1 .taken))
 
 returns-2 : tie.Need-returns-2
 returns-2 c =
-    let tested = c .before in
-    let x = tested .before .aligned in
-    let before-x = tested .before .before in
-    let o = before-x .wide3 in
-    let b = before-x .before .wide2 in
-    let before-b = before-x .before .before in
-    let a = before-b .wide in
-    let told = before-b .before .args in
+    let s : tie.Start = search needs in let told = s .args in
+    let a : tie.After-wide = search needs in
+    let b : tie.After-wide2 = search needs in
+    let o : tie.After-wide3 = search needs in
+    let x : tie.After-aligned = search needs in
     let placed =
-    ordered-placed F (told .k) (told .l) (a .result) (b .result) (search needs) (a .ensures) (b .ensures) (told .o) (o .result) (x .result) (lit< tt)
-    (o .ensures) (x .ensures) in
-    c .of-digits .ensures ∙ ap (answered (told .exc)) (placed 64 (told .s) (lit≤ tt) (tested .if1 .left))
+    ordered-placed F (told .k) (told .l) _ _ (search needs) (a .wide .ensures) (b .wide2 .ensures) (told .o) _ _ (lit< tt) (o .wide3 .ensures)
+    (x .aligned .ensures) in
+    c .of-digits .ensures ∙ ap (answered (told .exc)) (placed 64 (told .s) (lit≤ tt) (c .before .if1 .left))
 
 pub add-ordered-spec : {M : Type 1} → statement M
 add-ordered-spec =

@@ -1,4 +1,4 @@
--- `floating::sum::add_sizes` meets its contract. Assumes nothing.
+-- `add_sizes` meets its contract: the larger magnitude comes first, and its sign with it. Assumes nothing.
 use mathlib.Core.Path.{ap, _∙_}
 use Rattle.floating.specs.Format.{F}
 use Rattle.floating.specs.Operations.{answered}
@@ -12,14 +12,13 @@ add-ordered-requires c κs = (search (choice-below, needs), search needs, search
 
 returns : tie.Need-returns
 returns c =
-    let u = c .before .chosen3 in
-    let second = c .before .before in
-    let l = second .chosen2 in
-    let k = second .before .chosen in
-    let a = second .before .before .args in
+    let s : tie.Start = search needs in let a = s .args in
+    let k : tie.After-chosen = search needs in
+    let l : tie.After-chosen2 = search needs in
     c .add-ordered .ensures
     ∙ ap (answered (a .exc))
-    (chosen-delivered F (a .s) (a .a) (a .t) (a .b) (u .result) (k .result) (l .result) (search needs) (search needs) (u .ensures) (k .ensures) (l .ensures))
+    (chosen-delivered F (a .s) (a .a) (a .t) (a .b) _ _ _ (search needs) (search needs) (c .before .chosen3 .ensures) (k .chosen .ensures)
+    (l .chosen2 .ensures))
 
 pub add-sizes-spec : {M : Type 1} → statement M
 add-sizes-spec =

@@ -1,4 +1,4 @@
--- `floating::sum::aligned` meets its contract. Assumes nothing.
+-- `aligned` meets its contract: cut down for a sum, up for a difference, the smaller number leaves the whole part. Assumes nothing.
 use native.Mathlib.Omega.{arith}
 use Prim.Native.Nat.{_+_, _*_, _^_}
 use Rattle.floating.specs.Format.{F}
@@ -12,16 +12,18 @@ add-c c = let s = cut-small _ (c .before .args .d) _ (c .cut-down .ensures) in o
 
 sub-result : tie.Need-sub-result
 sub-result c =
-    let a = c .before .before .args in
+    let s : tie.Start = search needs in let a = s .args in
     let h = times-unit (2 ^ (F .bits + 2)) (a .a) (a .b) (a .d) (search needs) in
     cut-room _ _ (c .before .cut-down .result) (a .a * 2 ^ (F .bits + 2)) (a .d) (omega arith) (c .before .cut-down .ensures) (omega arith)
 
 add-result : tie.Need-add-result
-add-result c = let s = cut-small _ (c .before .before .args .d) _ (c .before .cut-down .ensures) in omega arith
+add-result c =
+    let s : tie.Start = search needs in
+    let small = cut-small _ (s .args .d) _ (c .before .cut-down .ensures) in omega arith
 
 returns : tie.Need-returns
 returns c =
-    let a = c .before .before .args in
+    let s : tie.Start = search needs in let a = s .args in
     minus-cut (2 ^ (F .bits + 2)) (a .o) (a .a) (a .b) (a .d) _ (c .before .cut-down .ensures) (c .if1 .taken) (omega arith) (search needs)
 
 returns-2 : tie.Need-returns-2

@@ -1,4 +1,4 @@
--- `floating::sum::alone` meets its contract. Assumes nothing.
+-- `alone` meets its contract: of the exponent 0 zero, and else the magnitude with the sign. Assumes nothing.
 use Rattle.floating.specs.Format.{F}
 use Rattle.floating.proofs.Sums.{none-delivered, alone-made}
 use borrow.Author.Needs.{needs}

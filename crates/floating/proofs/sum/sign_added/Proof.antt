@@ -1,4 +1,4 @@
--- `floating::sum::sign_added` meets its contract. Assumes nothing.
+-- `sign_added` meets its contract: the sign is its own, or with minus the other. Assumes nothing.
 use mathlib.Core.Path.{ap, _∙_}
 use Prim.Native.Nat.{ℕ, _-_}
 use native.Mathlib.Omega.{arith}
@@ -11,7 +11,7 @@ use Rattle.floating.proofs.sum.sign_added.Tie as tie
 returns : tie.Need-returns
 returns c =
     let s = c .before .sign-of in
-    let minus = c .before .before .args .minus in (
+    let a : tie.Start = search needs in let minus = a .args .minus in (
       choice-below minus (1 - s .result) (s .result) _ 2 (c .chosen .ensures) (omega arith) (search needs),
       c .chosen .ensures
           ∙ ap (λ (z : ℕ). pick minus (1 - z) z) (s .ensures),

@@ -1,4 +1,4 @@
--- `floating::word::is_reserved` meets its contract. Assumes nothing.
+-- `is_reserved` meets its contract: the exponent is 0 and the sign 1. Assumes nothing.
 use lib.Dec.{eqb}
 use Rattle.floating.specs.Format.{F, signOf, exponentOf}
 use Rattle.floating.proofs.Refusing.{both-tests}

@@ -1,4 +1,4 @@
--- `floating::word::is_zero` meets its contract. Assumes nothing.
+-- `is_zero` meets its contract: the exponent is 0 and the sign 0. Assumes nothing.
 use lib.Dec.{eqb}
 use Rattle.floating.specs.Format.{F, signOf, exponentOf}
 use Rattle.floating.proofs.Refusing.{both-tests}

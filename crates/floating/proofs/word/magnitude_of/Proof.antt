@@ -1,4 +1,4 @@
--- `floating::word::magnitude_of` meets its contract. Assumes nothing.
+-- `magnitude_of` meets its contract: the exponent with the fraction below it. Assumes nothing.
 use native.Mathlib.Omega.{arith}
 use Rattle.floating.proofs.Packing.{magnitude-is}
 use borrow.Author.Needs.{needs}

@@ -7,23 +7,22 @@ use Rattle.queue.proofs.acceptance.stand.Statement.{statement}
 use Rattle.queue.proofs.acceptance.stand.Tie as tie
 
 returns : tie.Need-returns
-returns c =
-    refused-12 _ _ (sym (c .before .in-range .ensures) ∙ not-true _ (c .if1 .taken))
+returns c = refused-12 _ _ (sym (c .before .in-range .ensures) ∙ not-true _ (c .if1 .taken))
 
 returns-2 : tie.Need-returns-2
 returns-2 c =
-    let e1 = c .before .before in
+    let e1 : tie.Else1 = search needs in
     refused-8 _ _ (sym (e1 .before .in-range .ensures) ∙ not-false _ (e1 .if1 .left)) (sym (c .before .well-formed .ensures) ∙ not-true _ (c .if2 .taken))
 
 returns-3 : tie.Need-returns-3
 returns-3 c =
-    let e2 = c .before .before in let e1 = e2 .before .before in
+    let e1 : tie.Else1 = search needs in let e2 : tie.Else2 = search needs in
     refused-3 _ _ (sym (e1 .before .in-range .ensures) ∙ not-false _ (e1 .if1 .left)) (sym (e2 .before .well-formed .ensures) ∙ not-false _ (e2 .if2 .left))
     (sym (c .before .enabled .ensures) ∙ not-true _ (c .if3 .taken))
 
 returns-4 : tie.Need-returns-4
 returns-4 c =
-    let e2 = c .before .before in let e1 = e2 .before .before in
+    let e1 : tie.Else1 = search needs in let e2 : tie.Else2 = search needs in
     refused-not _ _ (sym (e1 .before .in-range .ensures) ∙ not-false _ (e1 .if1 .left))
     (sym (e2 .before .well-formed .ensures) ∙ not-false _ (e2 .if2 .left)) (sym (c .before .enabled .ensures) ∙ not-false _ (c .if3 .left))
 

@@ -1,4 +1,4 @@
--- `enter` meets its contract. Assumes nothing.
+-- `enter` meets its contract: the entry's step, by its position and element. Assumes nothing.
 use borrow.Author.Needs.{needs}
 use Rattle.queue.proofs.Through.{acts-by}
 use Rattle.queue.proofs.runs.enter.Statement.{statement}

@@ -28,8 +28,9 @@ array-copy-out-instruction c = let start : tie.Start Inv-loop μ-loop = search n
 
 whole-requires : tie.Need-whole-requires Inv-loop μ-loop
 whole-requires c κs =
-    let turn : tie.In-loop Inv-loop μ-loop = search needs in let at : tie.At-loop Inv-loop μ-loop = search needs in
-    let b = at .before .before .pre .1 (at .loop .k) (turn .loop-test .taken) in (b .below, b .work, at .loop .inv .1)
+    let s : tie.Start Inv-loop μ-loop = search needs in let at : tie.At-loop Inv-loop μ-loop = search needs in
+    let turn : tie.In-loop Inv-loop μ-loop = search needs in
+    let b = s .pre .1 (at .loop .k) (turn .loop-test .taken) in (b .below, b .work, at .loop .inv .1)
 
 loop-again : tie.Need-loop-again Inv-loop μ-loop
 loop-again c =

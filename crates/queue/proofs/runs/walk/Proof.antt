@@ -6,8 +6,7 @@ use lib.ListN.{length}
 use Rattle.machine.specs.Run.{run}
 use Rattle.queue.specs.CallsWorking.{actBy}
 use Rattle.order.proofs.RunLoop.{RunInv, run-start, run-one, run-end}
-use Rattle.queue.proofs.Through.{act-vlr}
-use Rattle.queue.proofs.Through.{vlrOf}
+use Rattle.queue.proofs.Through.{act-vlr, vlrOf}
 use Rattle.queue.proofs.runs.walk.Statement.{statement}
 use Rattle.queue.proofs.runs.walk.Tie as tie
 
@@ -24,7 +23,8 @@ loop-holds c = (refl, run-start _ _ _)
 enter-requires : tie.Need-enter-requires Inv-loop μ-loop
 enter-requires c κs =
     let at : tie.At-loop Inv-loop μ-loop = search needs in let s : tie.Start Inv-loop μ-loop = search needs in
-    ((rw (at .loop .inv .0) (s .pre .0 .0), s .pre .0 .1, s .pre .1 .1 (at .loop .i) (c .before .before .loop-test .taken)), s .pre .1 .0)
+    let turn : tie.In-loop Inv-loop μ-loop = search needs in
+    ((rw (at .loop .inv .0) (s .pre .0 .0), s .pre .0 .1, s .pre .1 .1 (at .loop .i) (turn .loop-test .taken)), s .pre .1 .0)
 
 loop-again : tie.Need-loop-again Inv-loop μ-loop
 loop-again c =
