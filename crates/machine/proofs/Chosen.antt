@@ -97,7 +97,8 @@ module _ (ins : Instruction) (scalar all : ℕ) (r : Run) (short : r .progress .
     same-choice false m x = refl
 
     -- each step finds its element operated on exactly where the set has it
-    is-operated : (n : ℕ) (c : Control) → c .vlr ≡ r .progress .control .vlr → bit (c .vmr) n ≡ bit (r .progress .control .vmr) n → operated ins c n ≡ bit all n
+    is-operated : (n : ℕ) (c : Control) → c .vlr ≡ r .progress .control .vlr → bit (c .vmr) n ≡ bit (r .progress .control .vmr) n
+        → operated ins c n ≡ bit all n
     unfolding operated
     is-operated n c e f =
         ap₂ (λ (v : ℕ) (b : Bool). ltb n v && (not (ins .moe) || merge || Bool·beq b (ins .mtf))) e f

@@ -1,5 +1,5 @@
 -- The loop over compares, and what it makes of the mask. Assumes nothing.
-use mathlib.Core.Path.{_≡_, refl, sym, ap, ap₂, subst, _∙_}
+use mathlib.Core.Path.{_≡_, refl, sym, ap, ap₂, _∙_}
 use mathlib.Core.Bool.{Bool, true, false, not, _&&_, _||_}
 use mathlib.Core.Logic.{_⊎_, inl, inr}
 use mathlib.Core.List.{List, [], _∷_}
@@ -79,15 +79,6 @@ odd-below v n set q k h =
     ∙ odd-bit v 0 n k h
     ∙ ap (λ (j : ℕ). eqb (v j % 2) 1) (zero-add k)
 
--- the same of what a compare gives, by its form, and by its number
-module _ (ins : Instruction) (relation x : ℕ) (l : List ℕ) (v : Out → ℕ) (n set : ℕ) where
-  pub in-form : (form t : Bool) → form ≡ t → set ≡ oddFrom (λ i. v (comparedAt 4 relation t ins x l i)) 0 n → set ≡ oddFrom (λ i. v (comparedAt 4 relation form ins x l i)) 0 n
-  in-form form t e f = f ∙ ap (λ (u : Bool). oddFrom (λ i. v (comparedAt 4 relation u ins x l i)) 0 n) (sym e)
-
-  pub for-work : (scalar : Bool) (work k : ℕ) → work ≡ k → OddBelow (λ i. v (comparedAt k relation scalar ins x l i)) n set
-      → OddBelow (λ i. v (comparedAt work relation scalar ins x l i)) n set
-  for-work scalar work k e = subst (λ (j : ℕ). OddBelow (λ i. v (comparedAt j relation scalar ins x l i)) n set) (sym e)
-
 -- ---- the loop, from the highest element down
 pub nothing : (v : ℕ → ℕ) (to : ℕ) → 0 ≡ oddFrom v to (to - to)
 unfolding oddFrom
@@ -130,8 +121,10 @@ module _ (relation : ℕ) (scalar : Bool) (ins : Instruction) (x : ℕ) (l : Lis
       odd-below _ n refused q i h
       ∙ ap (λ (t : ℕ). eqb (t / 4 % 2) 1) (opposite-types relation (operandAt scalar x (ins .va .0) l i) (at l (ins .vb .0) i))
 
-  pub opposite-found : (found refused all : ℕ) → found ≡ oddFrom (λ i. by (relation % 4) i .value) 0 n → refused ≡ oddFrom (λ i. by (relation % 4) i .types / 4) 0 n → n ≤ 64
-      → ((i : ℕ) → i < 64 → bit all i ≡ pick (eqb (relation / 4 % 2) 1) (not (bit found i || bit refused i)) (bit found i)) → OddBelow (λ i. by relation i .value) n all
+  pub opposite-found : (found refused all : ℕ) → found ≡ oddFrom (λ i. by (relation % 4) i .value) 0 n
+      → refused ≡ oddFrom (λ i. by (relation % 4) i .types / 4) 0 n → n ≤ 64
+      → ((i : ℕ) → i < 64 → bit all i ≡ pick (eqb (relation / 4 % 2) 1) (not (bit found i || bit refused i)) (bit found i))
+      → OddBelow (λ i. by relation i .value) n all
   unfolding workAt
   opposite-found found refused all p q s e i h =
       e i (omega arith)
@@ -152,6 +145,10 @@ compare-number = told (λ n. isMaskBit (rowAt n .writes)) isCompare tt
 
 pub is-compare : (ins : Instruction) → ins .work < 256 → writesMask ins ≡ true → isCompare (ins .work) ≡ true
 is-compare ins small e = sym (compare-number (ins .work) small) ∙ e
+
+none-of : (s : Bool) → (s && false) ≡ false
+none-of true = refl
+none-of false = refl
 
 record Marks : Type 0 where
   vmr : ℕ
@@ -198,9 +195,11 @@ module _ (ins : Instruction) (x which : ℕ) (l : List ℕ) (p : Progress) (smal
     receives : received ins x i (reached m) ≡ out i
     unfolding received
     receives =
-        ap (λ (t : Bool). resultOf (workAt (ins .work)) (ins .exc) (fieldOf ins) (chooses ins (m .vmr) i) (first ins x l i) (second ins l i) (pick t 0 (at l (ins .vc .0) i)))
-        compare
+        ap (λ (t : Bool). of (pick t 0 (at l (ins .vc .0) i))) compare
         ∙ of-number (ins .work) is-one (matches (m .vmr) (ins .mtf) i)
+      where
+        of : ℕ → Out
+        of c = resultOf (workAt (ins .work)) (ins .exc) (fieldOf ins) (chooses ins (m .vmr) i) (first ins x l i) (second ins l i) c
 
     writes : (v : ℕ) → written ins i v (reached m) ≡ run l (progress (withVmr (p .control) (withBit (m .vmr) i (v % 2))) (reached m .progress .gathered))
     unfolding written
@@ -213,7 +212,8 @@ module _ (ins : Instruction) (x which : ℕ) (l : List ℕ) (p : Progress) (smal
         (ap (λ (o : Out). recorded (notes (registerBit (writesMask ins) (ins .vc .0)) (o .types)) (written ins i (o .value) (reached m))) receives
         ∙ ap (λ (t : Bool). recorded (notes (registerBit t (ins .vc .0)) (out i .types)) (written ins i (out i .value) (reached m))) compare
         ∙ ap (recorded (notes 0 (out i .types))) (writes (out i .value))
-        ∙ ap (λ (g : Gathered). run l (progress (withVmr (p .control) (withBit (m .vmr) i (out i .value % 2))) g)) (noted-twice (p .gathered) (m .types) (notes 0 (out i .types))))
+        ∙ ap (λ (g : Gathered). run l (progress (withVmr (p .control) (withBit (m .vmr) i (out i .value % 2))) g))
+        (noted-twice (p .gathered) (m .types) (notes 0 (out i .types))))
 
   starts : reached (marks (p .control .vmr) 0) ≡ run l p
   starts = ap (λ (g : Gathered). run l (progress (p .control) g)) (joined-nothing (p .gathered))
@@ -230,8 +230,9 @@ module _ (ins : Instruction) (x which : ℕ) (l : List ℕ) (p : Progress) (smal
   pub compared-one : (e : Effect) (i : ℕ) → e .vmr ≡ withBit (p .control .vmr) i (out i .value % 2) → e .vcr ≡ p .control .vcr → e .notes ≡ out i .types
       → run l (effected e p) ≡ worked ins x i (run l p)
   compared-one e i v c n =
+      let m = mark i (marks (p .control .vmr) 0) in
       ap₂ (λ (a b : ℕ). run l (progress (withVcr (withVmr (p .control) a) (e .vcr)) (joined (p .gathered) (noted b)))) v (n ∙ sym (plain (out i .types)))
-      ∙ ap (λ (a : ℕ). run l (progress (withVcr (reached (mark i (marks (p .control .vmr) 0)) .progress .control) a) (joined (p .gathered) (noted (bitOr 0 (notes 0 (out i .types))))))) c
+      ∙ ap (λ (a : ℕ). run l (progress (withVcr (reached m .progress .control) a) (reached m .progress .gathered))) c
       ∙ one i (marks (p .control .vmr) 0)
       ∙ ap (worked ins x i) starts
 
@@ -249,8 +250,8 @@ module _ (ins : Instruction) (x which : ℕ) (l : List ℕ) (p : Progress) (smal
   bits zero k = sym (pick-false (ltb k 0 && bit which k) _ _ (ap (λ (t : Bool). t && bit which k) (le-ltb k 0 (omega arith))))
   bits (suc n) k = at (bit which n) refl (decEq k n) (bits n k)
     where
-      Before : Type 0
-      Before = bit (after n .vmr) k ≡ pick (ltb k n && bit which k) (eqb (out k .value % 2) 1) (bit (p .control .vmr) k)
+      Has : ℕ → Marks → Type 0
+      Has j m = bit (m .vmr) k ≡ pick (ltb k j && bit which k) (eqb (out k .value % 2) 1) (bit (p .control .vmr) k)
 
       older : (k ≡ n → ⊥) → ltb k (suc n) ≡ ltb k n
       older q = go (below-or-not k n)
@@ -259,10 +260,10 @@ module _ (ins : Instruction) (x which : ℕ) (l : List ℕ) (p : Progress) (smal
           go (inl h) = lt-ltb k (suc n) (omega arith) ∙ sym (lt-ltb k n h)
           go (inr h) = le-ltb k (suc n) (omega arith) ∙ sym (le-ltb k n h)
 
-      kept : Before → (k ≡ n → ⊥) → bit (after n .vmr) k ≡ pick (ltb k (suc n) && bit which k) (eqb (out k .value % 2) 1) (bit (p .control .vmr) k)
+      kept : Has n (after n) → (k ≡ n → ⊥) → Has (suc n) (after n)
       kept b q = b ∙ ap (λ (t : Bool). pick (t && bit which k) (eqb (out k .value % 2) 1) (bit (p .control .vmr) k)) (sym (older q))
 
-      at : (t : Bool) → bit which n ≡ t → Dec (k ≡ n) → Before → bit (pick t (mark n (after n)) (after n) .vmr) k ≡ pick (ltb k (suc n) && bit which k) (eqb (out k .value % 2) 1) (bit (p .control .vmr) k)
+      at : (t : Bool) → bit which n ≡ t → Dec (k ≡ n) → Has n (after n) → Has (suc n) (pick t (mark n (after n)) (after n))
       at true e (yes q) b =
           ap (bit (withBit (after n .vmr) n (out n .value % 2))) q
           ∙ bit-replaced (after n .vmr) n (out n .value % 2) (mod-lt (out n .value) (omega arith))
@@ -352,26 +353,22 @@ module _ (ins : Instruction) (x which : ℕ) (l : List ℕ) (p : Progress) (smal
       same-mask : e .vmr ≡ after 64 .vmr
       same-mask = same-bits (e .vmr) (after 64 .vmr) (λ k. is-vmr k ∙ at k (bit which k) refl ∙ sym (bits 64 k))
         where
-          at : (k : ℕ) (t : Bool) → bit which k ≡ t → pick t (bit found k) (bit (p .control .vmr) k) ≡ pick (ltb k 64 && bit which k) (eqb (out k .value % 2) 1) (bit (p .control .vmr) k)
+          at : (k : ℕ) (t : Bool) → bit which k ≡ t
+              → pick t (bit found k) (bit (p .control .vmr) k) ≡ pick (ltb k 64 && bit which k) (eqb (out k .value % 2) 1) (bit (p .control .vmr) k)
           at k true g =
               is-found k (inside k g)
               ∙ sym (pick-true (ltb k 64 && bit which k) _ _ (ap₂ (λ (s u : Bool). s && u) (lt-ltb k 64 (let h = inside k g in omega arith)) g))
           at k false g = sym (pick-false (ltb k 64 && bit which k) _ _ (ap (λ (u : Bool). ltb k 64 && u) g ∙ none-of (ltb k 64)))
-            where
-              none-of : (s : Bool) → (s && false) ≡ false
-              none-of true = refl
-              none-of false = refl
 
       same-types : e .notes ≡ after 64 .types
-      same-types = is-notes ∙ ap (λ (t : Bool). pick t 0 4) (sym (none-is (bitAnd refused which) is (λ k g. let h = inside k g in omega arith))) ∙ sym (types 64)
+      same-types =
+          is-notes
+          ∙ ap (λ (t : Bool). pick t 0 4) (sym (none-is (bitAnd refused which) is (λ k g. let h = inside k g in omega arith)))
+          ∙ sym (types 64)
         where
           is : (k : ℕ) → bit (bitAnd refused which) k ≡ (bit which k && refuses k)
           is k = bit-and refused which k ∙ at (bit which k) refl
             where
-              none-of : (s : Bool) → (s && false) ≡ false
-              none-of true = refl
-              none-of false = refl
-
               whole-of : (s : Bool) → (s && true) ≡ s
               whole-of true = refl
               whole-of false = refl

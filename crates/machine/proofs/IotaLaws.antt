@@ -7,6 +7,7 @@ use Prim.Native.Nat.{ℕ, zero, suc, _+_, _-_, _*_, _%_, _^_, _≤_, _<_}
 use native.Mathlib.Nat.{le-refl}
 use native.Mathlib.Omega.{arith}
 use lib.Count.{ones}
+use lib.Dec.{ltb}
 use borrow.Author.Tests.{lt-ltb, le-ltb}
 use Rattle.numbers.specs.Choice.{pick}
 use Rattle.numbers.specs.Bits.{bit, withoutBit}
@@ -99,41 +100,46 @@ module _ (stride vc which : ℕ) (l₀ : List ℕ) where
         pub goes : (l′ : List ℕ) → l′ ≡ put vc next (i * stride % 2 ^ 32) l → Going stride vc which l₀ rest l′ (next + 1)
         unfolding iotaTurn
         goes l′ e = (
-          turns-walk (iotaTurn stride vc) which 64 (counted l₀ 0) left (counted l next) (g .0) some narrow i at rest others (counted l′ (next + 1)) (ap (λ (y : List ℕ). counted y (next + 1)) e),
+          turns-walk (iotaTurn stride vc) which 64 (counted l₀ 0) left (counted l next) (g .0) some narrow i at rest others (counted l′ (next + 1))
+              (ap (λ (y : List ℕ). counted y (next + 1)) e),
           let h = rises left some narrow in let k = g .1 in rw others (omega arith),
         )
 
-module _ (vmr : ℕ) (mtf : Bool) (stride vc : ℕ) (l : List ℕ) (word : vmr < 2 ^ 64) (vlr which : ℕ) (short : vlr ≤ 64) (is : which ≡ lowBits (matched vmr mtf) vlr) where
-  abbrev after : ℕ → Counted
-  after n = rising (ofOnes (iotaTurn stride vc) which) n (counted l 0)
+module _ (vmr : ℕ) (mtf : Bool) (stride vc : ℕ) (l : List ℕ) (word : vmr < 2 ^ 64) (vlr which : ℕ) (short : vlr ≤ 64)
+    (is : which ≡ lowBits (matched vmr mtf) vlr)
+  where
+    abbrev after : ℕ → Counted
+    after n = rising (ofOnes (iotaTurn stride vc) which) n (counted l 0)
 
-  ones-match : (n : ℕ) → n < vlr → bit which n ≡ matches vmr mtf n
-  ones-match n h = ap (λ (y : ℕ). bit y n) is ∙ bit-below (matched vmr mtf) vlr n ∙ ap (λ (t : Bool). t && bit (matched vmr mtf) n) (lt-ltb n vlr h) ∙ is-matched vmr mtf n word (omega arith)
+    in-set : (n : ℕ) (t : Bool) → ltb n vlr ≡ t → bit which n ≡ (t && bit (matched vmr mtf) n)
+    in-set n t e = ap (λ (y : ℕ). bit y n) is ∙ bit-below (matched vmr mtf) vlr n ∙ ap (λ (u : Bool). u && bit (matched vmr mtf) n) e
 
-  ones-past : (n : ℕ) → vlr ≤ n → bit which n ≡ false
-  ones-past n h = ap (λ (y : ℕ). bit y n) is ∙ bit-below (matched vmr mtf) vlr n ∙ ap (λ (t : Bool). t && bit (matched vmr mtf) n) (le-ltb n vlr h)
+    ones-match : (n : ℕ) → n < vlr → bit which n ≡ matches vmr mtf n
+    ones-match n h = in-set n true (lt-ltb n vlr h) ∙ is-matched vmr mtf n word (omega arith)
 
-  -- it is the walk over the mask
-  same-walk : (n : ℕ) → n ≤ vlr → after n ≡ counted (walked vmr mtf stride vc n l) (matching vmr mtf n)
-  unfolding rising ofOnes iotaTurn walked turned matching
-  same-walk zero h = refl
-  same-walk (suc n) h =
-      ap₂ (λ (t : Bool) (s : Counted). pick t (iotaTurn stride vc n s) s) (ones-match n h) (same-walk n (omega arith))
-      ∙ go (matches vmr mtf n)
-    where
-      go : (t : Bool)
-          → pick t (counted (put vc (matching vmr mtf n) (n * stride % 2 ^ 32) (walked vmr mtf stride vc n l)) (matching vmr mtf n + 1)) (counted (walked vmr mtf stride vc n l) (matching vmr mtf n))
-          ≡ counted (pick t (put vc (matching vmr mtf n) (n * stride % 2 ^ 32) (walked vmr mtf stride vc n l)) (walked vmr mtf stride vc n l)) (matching vmr mtf n + pick t 1 0)
-      go true = refl
-      go false = ap (counted (walked vmr mtf stride vc n l)) (omega arith)
+    ones-past : (n : ℕ) → vlr ≤ n → bit which n ≡ false
+    ones-past n h = in-set n false (le-ltb n vlr h)
 
-  pub whole-walk : (l′ : List ℕ) (next : ℕ) → counted l′ next ≡ after 64 → l′ ≡ walked vmr mtf stride vc vlr l
-  unfolding ofOnes
-  whole-walk l′ next e =
-      ap (λ (s : Counted). s .elements)
-      (e
-      ∙ sym (settles (ofOnes (iotaTurn stride vc) which) (after vlr) (counted l 0) vlr 64 short (λ j h _. pick-false (bit which j) (iotaTurn stride vc j (after vlr)) (after vlr) (ones-past j h)) refl)
-      ∙ same-walk vlr (le-refl vlr))
+    -- it is the walk over the mask
+    same-walk : (n : ℕ) → n ≤ vlr → after n ≡ counted (walked vmr mtf stride vc n l) (matching vmr mtf n)
+    unfolding rising ofOnes iotaTurn walked turned matching
+    same-walk zero h = refl
+    same-walk (suc n) h =
+        ap₂ (λ (t : Bool) (s : Counted). pick t (iotaTurn stride vc n s) s) (ones-match n h) (same-walk n (omega arith))
+        ∙ go (matches vmr mtf n) (matching vmr mtf n) (walked vmr mtf stride vc n l) _
+      where
+        go : (t : Bool) (e : ℕ) (l′ further : List ℕ) → pick t (counted further (e + 1)) (counted l′ e) ≡ counted (pick t further l′) (e + pick t 1 0)
+        go true e l′ further = refl
+        go false e l′ further = ap (counted l′) (omega arith)
+
+    pub whole-walk : (l′ : List ℕ) (next : ℕ) → counted l′ next ≡ after 64 → l′ ≡ walked vmr mtf stride vc vlr l
+    unfolding ofOnes
+    whole-walk l′ next e =
+        ap (λ (s : Counted). s .elements)
+        (e
+        ∙ sym (settles (ofOnes (iotaTurn stride vc) which) (after vlr) (counted l 0) vlr 64 short
+        (λ j h _. pick-false (bit which j) (iotaTurn stride vc j (after vlr)) (after vlr) (ones-past j h)) refl)
+        ∙ same-walk vlr (le-refl vlr))
 
 -- ---- the step
 
@@ -149,7 +155,8 @@ unfolding doneFor iotaStep
 stepped ins stride low-stride which bits next p l l′ e iota word short is s walk v c n =
     ap (λ (k : ℕ). run l′ (progress (withVcr (withVmr (p .control) (e .vmr)) (e .vcr)) (joined (p .gathered) (noted k)))) n
     ∙ ap₂ (λ (a b : ℕ). run l′ (progress (withVcr (withVmr (p .control) a) b) (joined (p .gathered) nothing))) v (c ∙ count)
-    ∙ ap₂ (λ (y : List ℕ) (g : Gathered). run y (progress (withVcr (p .control) (matching (p .control .vmr) (ins .mtf) (p .control .vlr))) g)) left (joined-nothing (p .gathered))
+    ∙ ap₂ (λ (y : List ℕ) (g : Gathered). run y (progress (withVcr (p .control) (matching (p .control .vmr) (ins .mtf) (p .control .vlr))) g))
+    left (joined-nothing (p .gathered))
     ∙ sym (pick-true (inOneStep ins) _ _ iota)
   where
     count : ones bits ≡ matching (p .control .vmr) (ins .mtf) (p .control .vlr)

@@ -83,9 +83,11 @@ module _ (vmr vmr′ : ℕ) (mtf : Bool) where
   matching-same (suc n) h =
       ap₂ (λ (k : ℕ) (t : Bool). k + pick t 1 0) (matching-same n (λ i g. h i (omega arith))) (matches-same n (h n (omega arith)))
 
-  pub walked-same : (stride vc n : ℕ) → ((i : ℕ) → i < n → bit vmr i ≡ bit vmr′ i) → (l : List ℕ) → walked vmr mtf stride vc n l ≡ walked vmr′ mtf stride vc n l
+  pub walked-same : (stride vc n : ℕ) → ((i : ℕ) → i < n → bit vmr i ≡ bit vmr′ i) → (l : List ℕ)
+      → walked vmr mtf stride vc n l ≡ walked vmr′ mtf stride vc n l
   unfolding walked turned
   walked-same stride vc zero h l = refl
   walked-same stride vc (suc n) h l =
-      ap₂ (λ (t : Bool) (k : ℕ). after t vc k (n * stride % 2 ^ 32) (walked vmr mtf stride vc n l)) (matches-same n (h n (omega arith))) (matching-same n (λ i g. h i (omega arith)))
+      ap₂ (λ (t : Bool) (k : ℕ). after t vc k (n * stride % 2 ^ 32) (walked vmr mtf stride vc n l))
+      (matches-same n (h n (omega arith))) (matching-same n (λ i g. h i (omega arith)))
       ∙ ap (after (matches vmr′ mtf n) vc (matching vmr′ mtf n) (n * stride % 2 ^ 32)) (walked-same stride vc n (λ i g. h i (omega arith)) l)

@@ -38,7 +38,8 @@ takes w scalar ins x i a s s′ e f = f ∙ ap (λ (y : ℕ). laneOf w ins y i s
 
 -- a short work of one element, where matches says that its mask bit is MTF
 pub short-takes : (work : ℕ) (exc : Bool) (mask : ℕ) (ins : Instruction) (x i a : ℕ) (matches : Bool) (s s′ : Lanes) → matches ≡ bit mask i
-    → a ≡ operandAt (ins .scalar) x (ins .va .0) (s .elements) i → s′ ≡ laneOf (plainly (workAt work) exc matches) ins a i s → s′ ≡ shortLane work exc mask ins x i s
+    → a ≡ operandAt (ins .scalar) x (ins .va .0) (s .elements) i → s′ ≡ laneOf (plainly (workAt work) exc matches) ins a i s
+    → s′ ≡ shortLane work exc mask ins x i s
 unfolding laneIn
 short-takes work exc mask ins x i a matches s s′ m e f =
     f ∙ ap₂ (λ (t : Bool) (y : ℕ). laneOf (plainly (workAt work) exc t) ins y i s) m e
@@ -86,7 +87,8 @@ module _ (k : ℕ) (ins : Instruction) (work : ins .work ≡ k) (field : fieldBy
         ap (landed (ins .vc .0) i s)
         (does i (operandAt (ins .scalar) x (ins .va .0) (s .elements) i) b (at (s .elements) (ins .vc .0) i)
         ∙ ap₂ (λ (f y : ℕ). of f y b) (sym field) (form (ins .scalar) a)
-        ∙ ap₂ (λ (t u : Bool). of (fieldBy (rowAt k .holds) ins) (pick (ins .scalar) x (pick t a 0)) (pick u b 0)) (sym (va (ins .scalar))) (sym (vb (ins .scalar)))
+        ∙ ap₂ (λ (t u : Bool). of (fieldBy (rowAt k .holds) ins) (pick (ins .scalar) x (pick t a 0)) (pick u b 0))
+        (sym (va (ins .scalar))) (sym (vb (ins .scalar)))
         ∙ ap (λ (n : ℕ). outOf n ins x mask i s) (sym work))
       where
         a : ℕ
@@ -112,32 +114,7 @@ pub record Plainly (k : ℕ) (ins : Instruction) : Type 0 where
 short-plainly : (k : ℕ) → isShort k ≡ true → (ins : Instruction) → Plainly k ins
 unfolding resultOf workAt rowAt rowOf
 short-plainly k is ins =
-    each-named (λ (n : ℕ). Plainly n ins) (16 ∷ 9 ∷ 8 ∷ 7 ∷ 6 ∷ 5 ∷ 3 ∷ 2 ∷ 1 ∷ []) (
-      record { field = refl; va = λ s. refl; vb = λ s. refl; bit = λ e m a b c. refl },
-      (
-        record { field = refl; va = λ s. refl; vb = λ s. refl; bit = λ e m a b c. refl },
-        (
-          record { field = refl; va = λ s. refl; vb = λ s. refl; bit = λ e m a b c. refl },
-          (
-            record { field = refl; va = λ s. refl; vb = λ s. refl; bit = λ e m a b c. refl },
-            (
-              record { field = refl; va = λ s. refl; vb = λ s. refl; bit = λ e m a b c. refl },
-              (
-                record { field = refl; va = λ s. refl; vb = λ s. refl; bit = λ e m a b c. refl },
-                (
-                  record { field = refl; va = λ s. refl; vb = λ s. refl; bit = λ e m a b c. refl },
-                  (
-                    record { field = refl; va = λ s. refl; vb = λ s. refl; bit = λ e m a b c. refl },
-                    (record { field = refl; va = λ s. refl; vb = λ s. refl; bit = λ e m a b c. refl }, tt),
-                  ),
-                ),
-              ),
-            ),
-          ),
-        ),
-      ),
-    )
-    k is
+    each-named (λ (n : ℕ). Plainly n ins) (16 ∷ 9 ∷ 8 ∷ 7 ∷ 6 ∷ 5 ∷ 3 ∷ 2 ∷ 1 ∷ []) (search) k is
 
 -- convert, which has no first operand
 convert-lane : (ins : Instruction) (x mask i : ℕ) (s : Lanes) → ins .work ≡ 14 → laneOf (converting (ins .exc) (ins .va .0)) ins 0 i s ≡ lane ins x mask i s
@@ -150,7 +127,8 @@ unfolding resultOf
 other-conversion exc conversion a b c f g = rw (ne-eqb conversion 5 f, ne-eqb conversion 4 g) refl
 
 pub converts-as : (ins : Instruction) (which : ℕ) (s₀ s : Lanes) (k : ℕ) → ins .va .0 ≡ k
-    → s ≡ rising (ofOnes (laneOf (converting (ins .exc) k) ins 0) which) 64 s₀ → s ≡ rising (ofOnes (laneOf (converting (ins .exc) (ins .va .0)) ins 0) which) 64 s₀
+    → s ≡ rising (ofOnes (laneOf (converting (ins .exc) k) ins 0) which) 64 s₀
+    → s ≡ rising (ofOnes (laneOf (converting (ins .exc) (ins .va .0)) ins 0) which) 64 s₀
 converts-as ins which s₀ s k e f = f ∙ ap (λ (j : ℕ). rising (ofOnes (laneOf (converting (ins .exc) j) ins 0) which) 64 s₀) (sym e)
 
 pub others : (ins : Instruction) (which : ℕ) (s₀ : Lanes) (conversion : ℕ) → (conversion ≡ 5 → ⊥) → (conversion ≡ 4 → ⊥)

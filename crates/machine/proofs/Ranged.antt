@@ -46,7 +46,9 @@ module _ (ins : Instruction) (scalar : ℕ) (vc : ins .vc .0 < 16) where
   unfolding written
   written-ranged i value r g =
       let c = g .control in
-      either (writesMask ins) _ _ (record { control = record { vlr = c .vlr; vcr = c .vcr; vaer = c .vaer; vpsr = c .vpsr }; gathered = g .gathered }) (record { control = c; gathered = g .gathered })
+      either (writesMask ins) _ _
+      (record { control = record { vlr = c .vlr; vcr = c .vcr; vaer = c .vaer; vpsr = c .vpsr }; gathered = g .gathered })
+      (record { control = c; gathered = g .gathered })
 
   worked-ranged : (i : ℕ) (r : Run) → InRange r → InRange (worked ins scalar i r)
   unfolding worked received joined
@@ -89,7 +91,10 @@ module _ (r : Run) (g : InRange r) where
   noted = withVaer (r .progress .control) (bitOr (r .progress .control .vaer) (r .progress .gathered .vaer))
 
   noted-ranged : Ranged noted
-  noted-ranged = let c = g .control in record { vlr = c .vlr; vcr = c .vcr; vaer = vaer-or (r .progress .control .vaer) (r .progress .gathered .vaer) (c .vaer) (g .gathered); vpsr = c .vpsr }
+  noted-ranged =
+      let c = g .control in
+      let v = vaer-or (r .progress .control .vaer) (r .progress .gathered .vaer) (c .vaer) (g .gathered) in
+      record { vlr = c .vlr; vcr = c .vcr; vaer = v; vpsr = c .vpsr }
 
   pub ended-ranged : Ranged (ended (r .progress))
   unfolding ended

@@ -24,8 +24,7 @@ Quiet n = (m : Bool) (a b c : ℕ) → resultOf (workAt n) false 0 m a b c ≡ q
 without-exc : (work : ℕ) → isShort work ≡ true → Quiet work
 unfolding resultOf workAt
 without-exc =
-    each-named Quiet (16 ∷ 9 ∷ 8 ∷ 7 ∷ 6 ∷ 5 ∷ 3 ∷ 2 ∷ 1 ∷ [])
-    ((λ m a b c. refl), ((λ m a b c. refl), ((λ m a b c. refl), ((λ m a b c. refl), ((λ m a b c. refl), ((λ m a b c. refl), ((λ m a b c. refl), ((λ m a b c. refl), ((λ m a b c. refl), tt)))))))))
+    each-named Quiet (16 ∷ 9 ∷ 8 ∷ 7 ∷ 6 ∷ 5 ∷ 3 ∷ 2 ∷ 1 ∷ []) (search)
 
 -- where EXC is looked at
 abbrev gatedBy : Bool → Lanes → Lanes
@@ -40,14 +39,16 @@ module _ (work mask : ℕ) (is : isShort work ≡ true) (ins : Instruction) (x :
   gates true i s = refl
   gates false i s =
       sym (ap (landed (ins .vc .0) i (lanes (s .elements) 0))
-      (without-exc work is (bit mask i) (operandAt (ins .scalar) x (ins .va .0) (s .elements) i) (at (s .elements) (ins .vb .0) i) (at (s .elements) (ins .vc .0) i)))
+      (without-exc work is (bit mask i) (operandAt (ins .scalar) x (ins .va .0) (s .elements) i) (at (s .elements) (ins .vb .0) i)
+      (at (s .elements) (ins .vc .0) i)))
 
   none : (exc : Bool) → _≡_ {A = ℕ} (pick exc 0 0) 0
   none true = refl
   none false = refl
 
   module _ (exc : Bool) (l l′ : List ℕ) (types t : ℕ) (g : t ≡ pick exc types 0) where
-    pub gated-set : (which : ℕ) → lanes l′ types ≡ rising (ofOnes (turn true) which) 64 (lanes l 0) → lanes l′ t ≡ rising (ofOnes (turn exc) which) 64 (lanes l 0)
+    pub gated-set : (which : ℕ) → lanes l′ types ≡ rising (ofOnes (turn true) which) 64 (lanes l 0)
+        → lanes l′ t ≡ rising (ofOnes (turn exc) which) 64 (lanes l 0)
     gated-set which e =
         ap (lanes l′) g ∙ ap (gatedBy exc) e
         ∙ ones-carry (gatedBy exc) (turn true) (turn exc) which 64 (lanes l 0) (λ i s _. gates exc i s)

@@ -1,4 +1,4 @@
--- `effected` meets its contract. Assumes nothing.
+-- `effected` meets its contract: what was done stands in VMR and VCR, and its notes are gathered. Assumes nothing.
 use borrow.Author.Needs.{needs}
 use Rattle.machine.proofs.instruction.effected.Statement.{statement}
 use Rattle.machine.proofs.instruction.effected.Tie as tie

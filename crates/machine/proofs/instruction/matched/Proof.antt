@@ -1,3 +1,4 @@
+-- `matched` meets its contract: the mask, or its complement where MTF is clear. Assumes nothing.
 use borrow.Author.Needs.{needs}
 use Rattle.machine.proofs.instruction.matched.Statement.{statement}
 use Rattle.machine.proofs.instruction.matched.Tie as tie

@@ -1,4 +1,4 @@
--- `noted` meets its contract. Assumes nothing.
+-- `noted` meets its contract: VMR and VCR as they came, what VAER gets of the types, and the set as what was written. Assumes nothing.
 use borrow.Author.Needs.{needs}
 use Rattle.machine.proofs.instruction.noted.Statement.{statement}
 use Rattle.machine.proofs.instruction.noted.Tie as tie

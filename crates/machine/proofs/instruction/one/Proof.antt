@@ -1,4 +1,4 @@
--- `one` meets its contract: a compare, and a work that writes elements. Assumes nothing.
+-- `one` meets its contract: a compare, or a work that writes the element. Assumes nothing.
 use mathlib.Core.Path.{sym, ap, _∙_}
 use Prim.Native.Nat.{ℕ}
 use Rattle.numbers.specs.Bits.{withBit}
@@ -13,43 +13,38 @@ use Rattle.machine.proofs.instruction.one.Tie as tie
 
 at-requires : tie.Need-at-requires
 at-requires c κs =
-    let t = c .before in
-    let w = t .before in
-    let s = w .before in
-    (s .pre .0, s .pre .2, sym (w .writes-mask .ensures) ∙ t .if1 .taken)
+    let s : tie.Start = search needs in
+    let t : tie.Then1 = search needs in
+    let mask = sym (t .before .writes-mask .ensures) ∙ t .if1 .taken in
+    (s .pre .0, s .pre .2, mask)
 
 returns : tie.Need-returns
 returns c =
-    let t = c .before .before in
-    let w = t .before in
-    let a = w .before .args in (
-      λ p e f. c .at .ensures .0 p e f,
-      c .at .ensures .1 ∙ none-written (a .instruction) (withBit 0 (a .i .0) 1) _ (sym (w .writes-mask .ensures) ∙ t .if1 .taken),
-    )
+    let s : tie.Start = search needs in
+    let t : tie.Then1 = search needs in
+    let mask = sym (t .before .writes-mask .ensures) ∙ t .if1 .taken in
+    let set = withBit 0 (s .args .i .0) 1 in
+    (λ p e f. c .at .ensures .0 p e f, c .at .ensures .1 ∙ none-written (s .args .instruction) set _ mask)
 
 some-requires : tie.Need-some-requires
 some-requires c κs =
-    let e = c .before .before .before in
-    let w = e .before in
-    let s = w .before in
-    let i = s .args .instruction in
-    let no-mask = sym (w .writes-mask .ensures) ∙ e .if1 .left in
-    (s .pre .0, is-lane i 0 0 no-mask (s .pre .3) (s .pre .1))
+    let s : tie.Start = search needs in
+    let e : tie.Else1 = search needs in
+    let no-mask = sym (e .before .writes-mask .ensures) ∙ e .if1 .left in
+    (s .pre .0, is-lane (s .args .instruction) 0 0 no-mask (s .pre .3) (s .pre .1))
 
 returns-2 : tie.Need-returns-2
 returns-2 c =
-    let l = c .before in
-    let k = l .before in
-    let b = k .before .before in
-    let e = b .before in
-    let w = e .before in
-    let s = w .before in
+    let s : tie.Start = search needs in
+    let e : tie.Else1 = search needs in
+    let no-mask = sym (e .before .writes-mask .ensures) ∙ e .if1 .left in
+    let b : tie.After-with-bit = search needs in
+    let k : tie.After-matched = search needs in
     let i = s .args .instruction in
-    let no-mask = sym (w .writes-mask .ensures) ∙ e .if1 .left in
     let n = c .noted .ensures in (
       λ p g f.
           valued i (s .args .scalar) (b .with-bit .result) _ p (rw g (search needs)) no-mask (s .pre .3) _ _ (c .noted .result)
-          (rw (g, ← (k .matched .ensures)) (l .some .ensures))
+          (rw (g, ← (k .matched .ensures)) (c .before .some .ensures))
           (ap (λ (d : Effect). d .vmr) n ∙ sym g)
           (ap (λ (d : Effect). d .vcr) n ∙ sym f)
           (ap (λ (d : Effect). d .notes) n)

@@ -1,10 +1,10 @@
--- `operated` meets its contract. Assumes nothing.
+-- `operated` meets its contract: below VLR, those whose mask bit is MTF, or all where the instruction does not look at it. Assumes nothing.
 use borrow.Author.Needs.{needs}
 use Rattle.machine.proofs.instruction.operated.Statement.{statement}
 use Rattle.machine.proofs.instruction.operated.Tie as tie
 
 returns : tie.Need-returns
-returns c = rw (← c .before .before .ignores-moe .ensures) (c .chosen-below .ensures)
+returns c = let i : tie.After-ignores-moe = search needs in rw (← i .ignores-moe .ensures) (c .chosen-below .ensures)
 
 pub operated-spec : {M : Type 1} → statement M
 operated-spec =

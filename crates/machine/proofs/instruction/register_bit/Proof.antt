@@ -1,3 +1,4 @@
+-- `register_bit` meets its contract: one bit, moved up to the register's place in VAER. Assumes nothing.
 use Prim.Native.Nat.{_+_}
 use native.Mathlib.Omega.{arith}
 use Rattle.numbers.proofs.BitLaws.{one-shifted}

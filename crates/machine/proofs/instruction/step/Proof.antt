@@ -11,43 +11,40 @@ use Rattle.machine.proofs.instruction.step.Tie as tie
 
 effect-requires : tie.Need-effect-requires
 effect-requires c κs =
-    let s = c .before .before .before in
+    let s : tie.Start = search needs in
     ((s .pre .0, s .pre .1, s .pre .2), λ j e. absurd (true-not-false (sym (bit-none j) ∙ e)))
 
 returns : tie.Need-returns
 returns c =
-    let e = c .before in
-    let t = e .before .before in
-    ap (run _) (c .effected .ensures) ∙ e .effect .ensures .0 _ refl refl refl ∙ iota-done _ _ _ _ _ (sym (t .before .in-one-step .ensures) ∙ t .if1 .taken)
+    let t : tie.Then1 = search needs in
+    let iota = sym (t .before .in-one-step .ensures) ∙ t .if1 .taken in
+    ap (run _) (c .effected .ensures) ∙ c .before .effect .ensures .0 _ refl refl refl ∙ iota-done _ _ _ _ _ iota
 
 returns-2 : tie.Need-returns-2
 returns-2 c =
-    let b = c .before in
-    let o = b .before in
-    let t = o .before in
-    let k = t .before in
-    let s = k .before in
-    kept _ _ _ _ (s .pre .2) (o .operated .ensures) _ (sym (k .in-one-step .ensures) ∙ t .if1 .left) (sym (b .bit .ensures) ∙ not-true _ (c .if2 .taken))
+    let s : tie.Start = search needs in
+    let e : tie.Else1 = search needs in
+    let no-iota = sym (e .before .in-one-step .ensures) ∙ e .if1 .left in
+    let o : tie.After-operated = search needs in
+    kept _ _ _ _ (s .pre .2) (o .operated .ensures) _ no-iota (sym (c .before .bit .ensures) ∙ not-true _ (c .if2 .taken))
 
 one-requires : tie.Need-one-requires
 one-requires c κs =
-    let t = c .before .before .before .before in
-    let k = t .before in
-    let s = k .before in
-    (s .pre .0, s .pre .1, s .pre .3, sym (k .in-one-step .ensures) ∙ t .if1 .left)
+    let s : tie.Start = search needs in
+    let e : tie.Else1 = search needs in
+    let no-iota = sym (e .before .in-one-step .ensures) ∙ e .if1 .left in
+    (s .pre .0, s .pre .1, s .pre .3, no-iota)
 
 returns-3 : tie.Need-returns-3
 returns-3 c =
-    let d = c .before in
-    let l = d .before .before in
-    let b = l .before in
-    let o = b .before in
-    let t = o .before in
-    let k = t .before in
-    let s = k .before in
+    let s : tie.Start = search needs in
+    let e : tie.Else1 = search needs in
+    let no-iota = sym (e .before .in-one-step .ensures) ∙ e .if1 .left in
+    let o : tie.After-operated = search needs in
+    let l : tie.Else2 = search needs in
     ap (run _) (c .effected2 .ensures)
-    ∙ d .one .ensures .0 _ refl refl
-    ∙ taken _ _ _ _ (s .pre .2) (o .operated .ensures) _ (sym (k .in-one-step .ensures) ∙ t .if1 .left) (sym (b .bit .ensures) ∙ not-false _ (l .if2 .left))
+    ∙ c .before .one .ensures .0 _ refl refl
+    ∙ taken _ _ _ _ (s .pre .2) (o .operated .ensures) _ no-iota (sym (l .before .bit .ensures) ∙ not-false _ (l .if2 .left))
 
 pub step-spec : {M : Type 1} → statement M
 step-spec =

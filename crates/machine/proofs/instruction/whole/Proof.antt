@@ -1,4 +1,4 @@
--- `whole` meets its contract. Assumes nothing.
+-- `whole` meets its contract: the work of the set of all elements that are operated on is the instruction. Assumes nothing.
 use Rattle.machine.proofs.Chosen.{whole, below}
 use Rattle.machine.specs.Run.{run}
 use mathlib.Core.Path.{refl, ap, _∙_}
@@ -8,14 +8,14 @@ use Rattle.machine.proofs.instruction.whole.Tie as tie
 
 effect-requires : tie.Need-effect-requires
 effect-requires c κs =
-    let s = c .before .before in
+    let s : tie.Start = search needs in
     ((s .pre .0, s .pre .1, s .pre .2), below _ _ _ (c .before .operated .ensures))
 
 returns : tie.Need-returns
 returns c =
-    let e = c .before in
-    let o = e .before .before in
-    ap (run _) (c .effected .ensures) ∙ e .effect .ensures .0 _ refl refl refl ∙ whole _ _ _ _ (o .before .pre .2) (o .operated .ensures)
+    let s : tie.Start = search needs in
+    let o : tie.After-operated = search needs in
+    ap (run _) (c .effected .ensures) ∙ c .before .effect .ensures .0 _ refl refl refl ∙ whole _ _ _ _ (s .pre .2) (o .operated .ensures)
 
 pub whole-spec : {M : Type 1} → statement M
 whole-spec =

@@ -1,3 +1,4 @@
+-- `count` meets its contract: the count fits, and is that of the ones. Assumes nothing.
 use native.Mathlib.Omega.{arith}
 use lib.Count.{ones-le}
 use borrow.Author.Needs.{needs}

@@ -1,4 +1,4 @@
--- `iota` meets its contract. Assumes nothing.
+-- `iota` meets its contract: the walk's turns and the count of the set's ones are IOTA's one step. Assumes nothing.
 use Rattle.machine.proofs.IotaLaws.{stepped, count-short}
 use Rattle.numbers.specs.Working.{lowBits}
 use mathlib.Core.Path.{refl, sym, ap, _∙_}
@@ -8,20 +8,22 @@ use Rattle.machine.proofs.iota.iota.Tie as tie
 
 low-bits-requires-2 : tie.Need-low-bits-requires-2
 low-bits-requires-2 c κs =
-    let w = c .before in
-    let l = w .before .before .before in
-    let s = l .before in
-    count-short (s .args .vmr) (s .args .instruction .mtf) (s .args .vlr) (s .args .mask) _ _ (search needs) (s .pre .1) (s .pre .3) (l .low-bits .ensures) (c .count .ensures)
+    let s : tie.Start = search needs in
+    let l : tie.After-low-bits = search needs in
+    let a = s .args in
+    count-short (a .vmr) (a .instruction .mtf) (a .vlr) (a .mask) _ _ (search needs) (s .pre .1) (s .pre .3) (l .low-bits .ensures) (c .count .ensures)
 
 returns : tie.Need-returns
 returns c =
-    let w = c .before .before in
-    let l = w .before .before .before in
-    let s = l .before in
+    let s : tie.Start = search needs in
+    let l : tie.After-low-bits = search needs in
+    let w : tie.After-walk = search needs in
     let a = s .args in (
       λ which p e f.
-          stepped (a .instruction) (a .stride) _ which _ _ p _ _ (record { vmr = _; vcr = _; notes = 0; wrote = 0 }) (s .pre .2) (rw f (search needs)) (rw e (search needs))
-          (rw (e, f) (l .low-bits .ensures ∙ ap (λ m. lowBits m (a .vlr)) (s .pre .3))) (search needs) (w .walk .ensures) (sym f) (c .before .count .ensures) refl,
+          stepped (a .instruction) (a .stride) _ which _ _ p _ _ (record { vmr = _; vcr = _; notes = 0; wrote = 0 }) (s .pre .2)
+          (rw f (search needs)) (rw e (search needs))
+          (rw (e, f) (l .low-bits .ensures ∙ ap (λ m. lowBits m (a .vlr)) (s .pre .3))) (search needs) (w .walk .ensures) (sym f)
+          (c .before .count .ensures) refl,
       c .low-bits2 .ensures,
     )
 

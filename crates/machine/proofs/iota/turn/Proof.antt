@@ -1,9 +1,12 @@
+-- `turn` meets its contract: the next element of vc gets i's multiple in its low half. Assumes nothing.
 use borrow.Author.Needs.{needs}
 use Rattle.machine.proofs.iota.turn.Statement.{statement}
 use Rattle.machine.proofs.iota.turn.Tie as tie
 
 returns : tie.Need-returns
-returns c = rw (c .with-low .ensures, c .before .multiple .ensures, c .before .before .before .place .ensures)
+returns c =
+    let to : tie.After-place = search needs in
+    rw (c .with-low .ensures, c .before .multiple .ensures, to .place .ensures)
 
 pub turn-spec : {M : Type 1} → statement M
 turn-spec =

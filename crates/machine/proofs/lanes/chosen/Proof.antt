@@ -1,9 +1,10 @@
--- `chosen` meets its contract. Assumes nothing.
+-- `chosen` meets its contract: the elements of the set that are left are still to be worked on. Assumes nothing.
 use Rattle.machine.proofs.Recording.{gated-set}
 use Rattle.machine.proofs.LaneLoops.{short-takes}
 use Rattle.machine.specs.Working.{lanes, shortLane}
 use mathlib.Core.Bool.{true}
 use mathlib.Core.Path.{refl}
+use Prim.Native.Nat.{_<_}
 use native.Mathlib.Omega.{arith}
 use borrow.Author.Needs.{needs}
 use Rattle.numbers.proofs.SetBits.{Walk, starts-walk, ends-walk, index-below, less-left, turns-walk}
@@ -20,46 +21,41 @@ abbrev μ-loop : tie.MeasureT-loop
 loop-holds : tie.Need-loop-holds Inv-loop μ-loop
 loop-holds c = search (starts-walk, needs)
 
-first-requires : tie.Need-first-requires Inv-loop μ-loop
-first-requires c κs =
-    let l = c .before in
-    let v = l .before .before .loop .inv in
-    let b = index-below _ _ _ _ _ _ v (omega arith) (v .small) _ (l .lowest .ensures) in
-    search needs
-
-shr-short : tie.Need-shr-short Inv-loop μ-loop
-shr-short c =
-    let l = c .before .before .before in
-    let v = l .before .before .loop .inv in
+-- the element of a turn
+index : (l : tie.After-lowest Inv-loop μ-loop) → l .lowest .result < 64
+index l =
+    let at : tie.At-loop Inv-loop μ-loop = search needs in
+    let v = at .loop .inv in
     index-below _ _ _ _ _ _ v (omega arith) (v .small) _ (l .lowest .ensures)
 
-short-requires : tie.Need-short-requires Inv-loop μ-loop
-short-requires c κs =
-    let l = c .before .before .before in
-    let v = l .before .before .loop .inv in
-    let b = index-below _ _ _ _ _ _ v (omega arith) (v .small) _ (l .lowest .ensures) in
-    search needs
+shr-short : tie.Need-shr-short Inv-loop μ-loop
+shr-short c = index (search needs)
 
 loop-less : tie.Need-loop-less Inv-loop μ-loop
 loop-less c =
-    let l = c .before .before .before .before .before in
-    let v = l .before .before .loop .inv in
+    let at : tie.At-loop Inv-loop μ-loop = search needs in
+    let l : tie.After-lowest Inv-loop μ-loop = search needs in
+    let v = at .loop .inv in
     less-left _ _ _ _ _ _ v (omega arith) (v .small) _ (l .lowest .ensures) _ (c .without-lowest .ensures)
 
 loop-again : tie.Need-loop-again Inv-loop μ-loop
 loop-again c =
-    let l = c .before .before .before .before .before in
-    let z = l .before .before in
-    let a = z .before .args in
-    let v = z .loop .inv in
-    turns-walk _ _ _ _ _ _ v (omega arith) (v .small) _ (l .lowest .ensures) _ (c .without-lowest .ensures) _ (short-takes (a .work) true (a .mask) (a .instruction) (a .x) _ _ _ _ _ refl (c .before .before .before .first .ensures) (c .before .short .ensures))
+    let at : tie.At-loop Inv-loop μ-loop = search needs in
+    let l : tie.After-lowest Inv-loop μ-loop = search needs in
+    let v = at .loop .inv in
+    let first : tie.After-first Inv-loop μ-loop = search needs in
+    let s : tie.Start Inv-loop μ-loop = search needs in
+    let a = s .args in
+    turns-walk _ _ _ _ _ _ v (omega arith) (v .small) _ (l .lowest .ensures) _ (c .without-lowest .ensures) _
+    (short-takes (a .work) true (a .mask) (a .instruction) (a .x) _ _ _ _ _ refl (first .first .ensures) (c .before .short .ensures))
 
 returns : tie.Need-returns Inv-loop μ-loop
 returns c =
-    let at = c .before .before in
-    let a = at .before .args in
-    gated-set (a .work) (a .mask) (at .before .pre .0) (a .instruction) (a .x) (a .instruction .exc) (a .elements .now) _ _ _ (c .gated .ensures) (a .which)
-    (ends-walk _ _ _ _ _ _ (at .loop .inv) (c .before .loop-test .left))
+    let at : tie.At-loop Inv-loop μ-loop = search needs in
+    let s : tie.Start Inv-loop μ-loop = search needs in
+    let a = s .args in
+    let ends = ends-walk _ _ _ _ _ _ (at .loop .inv) (c .before .loop-test .left) in
+    gated-set (a .work) (a .mask) (s .pre .0) (a .instruction) (a .x) (a .instruction .exc) (a .elements .now) _ _ _ (c .gated .ensures) (a .which) ends
 
 pub chosen-spec : {M : Type 1} → statement M
 chosen-spec =
@@ -69,9 +65,9 @@ chosen-spec =
     μ-loop
     loop-holds
     (λ c κs. search needs)
-    first-requires
+    (λ c κs. search (index, needs))
     shr-short
-    short-requires
+    (λ c κs. search (index, needs))
     (λ c κs. search needs)
     loop-less
     loop-again

@@ -1,20 +1,14 @@
--- `conversions` meets its contract. Assumes nothing.
+-- `conversions` meets its contract: 5 and 4 by their constants, and any other as 1. Assumes nothing.
 use Rattle.machine.proofs.LaneLoops.{converts-as, others}
 use mathlib.Core.Path.{_∙_}
 use borrow.Author.Needs.{needs}
 use Rattle.machine.proofs.lanes.conversions.Statement.{statement}
 use Rattle.machine.proofs.lanes.conversions.Tie as tie
 
-returns : tie.Need-returns
-returns c = converts-as _ _ _ _ 5 (c .before .before .match .keys1) (c .converts .ensures)
-
-returns-2 : tie.Need-returns-2
-returns-2 c = converts-as _ _ _ _ 4 (c .before .before .match .keys2) (c .converts2 .ensures)
-
 returns-3 : tie.Need-returns-3
 returns-3 c =
-    let r = c .before .before .match .rest in
-    c .converts3 .ensures ∙ others _ _ _ _ (r .0 .1) (r .1)
+    let m : tie.At-match-rest = search needs in
+    c .converts3 .ensures ∙ others _ _ _ _ (m .match .rest .0 .1) (m .match .rest .1)
 
 pub conversions-spec : {M : Type 1} → statement M
 conversions-spec =
@@ -23,6 +17,6 @@ conversions-spec =
     (λ c κs. search needs)
     (λ c κs. search needs)
     (λ c κs. search needs)
-    returns
-    returns-2
+    (λ c. search (converts-as, needs))
+    (λ c. search (converts-as, needs))
     returns-3)

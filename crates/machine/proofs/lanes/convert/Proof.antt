@@ -1,4 +1,4 @@
--- `convert` meets its contract. Assumes nothing.
+-- `convert` meets its contract: the element's conversion lands in vc. Assumes nothing.
 use Rattle.machine.proofs.LaneLoops.{lands}
 use borrow.Author.Needs.{needs}
 use Rattle.machine.proofs.lanes.convert.Statement.{statement}

@@ -1,5 +1,6 @@
--- `converts` meets its contract. Assumes nothing.
+-- `converts` meets its contract: the elements of the set that are left are still to be converted. Assumes nothing.
 use Rattle.machine.specs.Working.{lanes, laneOf, converting}
+use Prim.Native.Nat.{_<_}
 use native.Mathlib.Omega.{arith}
 use borrow.Author.Needs.{needs}
 use Rattle.numbers.proofs.SetBits.{Walk, starts-walk, ends-walk, index-below, less-left, turns-walk}
@@ -16,27 +17,29 @@ abbrev μ-loop : tie.MeasureT-loop
 loop-holds : tie.Need-loop-holds Inv-loop μ-loop
 loop-holds c = search (starts-walk, needs)
 
-convert-requires : tie.Need-convert-requires Inv-loop μ-loop
-convert-requires c κs =
-    let l = c .before in
-    let v = l .before .before .loop .inv in
-    let b = index-below _ _ _ _ _ _ v (omega arith) (v .small) _ (l .lowest .ensures) in
-    search needs
+-- the element of a turn
+index : (l : tie.After-lowest Inv-loop μ-loop) → l .lowest .result < 64
+index l =
+    let at : tie.At-loop Inv-loop μ-loop = search needs in
+    let v = at .loop .inv in
+    index-below _ _ _ _ _ _ v (omega arith) (v .small) _ (l .lowest .ensures)
 
 loop-less : tie.Need-loop-less Inv-loop μ-loop
 loop-less c =
-    let l = c .before .before .before in
-    let v = l .before .before .loop .inv in
+    let at : tie.At-loop Inv-loop μ-loop = search needs in
+    let l : tie.After-lowest Inv-loop μ-loop = search needs in
+    let v = at .loop .inv in
     less-left _ _ _ _ _ _ v (omega arith) (v .small) _ (l .lowest .ensures) _ (c .without-lowest .ensures)
 
 loop-again : tie.Need-loop-again Inv-loop μ-loop
 loop-again c =
-    let l = c .before .before .before in
-    let v = l .before .before .loop .inv in
+    let at : tie.At-loop Inv-loop μ-loop = search needs in
+    let l : tie.After-lowest Inv-loop μ-loop = search needs in
+    let v = at .loop .inv in
     turns-walk _ _ _ _ _ _ v (omega arith) (v .small) _ (l .lowest .ensures) _ (c .without-lowest .ensures) _ (c .before .convert .ensures)
 
 returns : tie.Need-returns Inv-loop μ-loop
-returns c = ends-walk _ _ _ _ _ _ (c .before .loop .inv) (c .loop-test .left)
+returns c = search (ends-walk, needs)
 
 pub converts-spec : {M : Type 1} → statement M
 converts-spec =
@@ -46,7 +49,7 @@ converts-spec =
     μ-loop
     loop-holds
     (λ c κs. search needs)
-    convert-requires
+    (λ c κs. search (index, needs))
     (λ c κs. search needs)
     loop-less
     loop-again

@@ -1,4 +1,4 @@
--- `every` meets its contract. Assumes nothing.
+-- `every` meets its contract: the elements below i were worked on, and the mask was halved at each of them. Assumes nothing.
 use Rattle.machine.proofs.Recording.{gated-all}
 use Rattle.machine.proofs.LaneLoops.{short-takes, unhalved, its-bit, halved}
 use Rattle.machine.specs.Working.{lanes, shortLane}
@@ -24,16 +24,22 @@ loop-holds c = search (unhalved, needs)
 
 loop-again : tie.Need-loop-again Inv-loop μ-loop
 loop-again c =
-    let l = c .before .before .before .before .before .loop .inv in
-    let turn = short-takes _ _ _ _ _ _ _ _ _ _ (its-bit _ _ _ (l .1)) (c .before .before .first .ensures) (c .short .ensures) in
-    (search needs, halved _ _ _ (l .1), turns _ _ _ _ _ (l .2) turn)
+    let at : tie.At-loop Inv-loop μ-loop = search needs in
+    let first : tie.After-first Inv-loop μ-loop = search needs in
+    let v = at .loop .inv in (
+      search needs,
+      halved _ _ _ (v .1),
+      turns _ _ _ _ _ (v .2)
+          (short-takes _ _ _ _ _ _ _ _ _ _ (its-bit _ _ _ (v .1)) (first .first .ensures) (c .short .ensures)),
+    )
 
 returns : tie.Need-returns Inv-loop μ-loop
 returns c =
-    let at = c .before .before in
-    let a = at .before .args in
-    gated-all (a .work) (a .mask) (at .before .pre .0) (a .instruction) (a .x) (a .instruction .exc) (a .elements .now) _ _ _ (c .gated .ensures) (a .n)
-    (ends _ _ _ _ _ (at .loop .inv .0) (c .before .loop-test .left) (at .loop .inv .2))
+    let s : tie.Start Inv-loop μ-loop = search needs in
+    let at : tie.At-loop Inv-loop μ-loop = search needs in
+    let a = s .args in
+    let ends = ends _ _ _ _ _ (at .loop .inv .0) (c .before .loop-test .left) (at .loop .inv .2) in
+    gated-all (a .work) (a .mask) (s .pre .0) (a .instruction) (a .x) (a .instruction .exc) (a .elements .now) _ _ _ (c .gated .ensures) (a .n) ends
 
 pub every-spec : {M : Type 1} → statement M
 every-spec =

@@ -1,4 +1,4 @@
--- `land` meets its contract. Assumes nothing.
+-- `land` meets its contract: the element's place gets the value, and the types join the others. Assumes nothing.
 use borrow.Author.Needs.{needs}
 use Rattle.machine.proofs.lanes.land.Statement.{statement}
 use Rattle.machine.proofs.lanes.land.Tie as tie

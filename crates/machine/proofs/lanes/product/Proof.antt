@@ -1,10 +1,12 @@
--- `product` meets its contract. Assumes nothing.
+-- `product` meets its contract: the product or the quotient lands in vc, whose own element was fetched before. Assumes nothing.
 use borrow.Author.Needs.{needs}
 use Rattle.machine.proofs.lanes.product.Statement.{statement}
 use Rattle.machine.proofs.lanes.product.Tie as tie
 
 returns : tie.Need-returns
-returns c = rw (c .land .ensures, c .before .product .ensures, c .before .before .before .element-of .ensures)
+returns c =
+    let own : tie.After-element-of = search needs in
+    rw (c .land .ensures, c .before .product .ensures, own .element-of .ensures)
 
 pub product-spec : {M : Type 1} → statement M
 product-spec =

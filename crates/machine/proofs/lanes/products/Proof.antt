@@ -1,19 +1,14 @@
--- `products` meets its contract. Assumes nothing.
+-- `products` meets its contract: by the form, with a scalar or with a register. Assumes nothing.
 use Rattle.machine.proofs.LaneLoops.{by-scalar, by-register}
 use borrow.Author.Needs.{needs}
 use Rattle.machine.proofs.lanes.products.Statement.{statement}
 use Rattle.machine.proofs.lanes.products.Tie as tie
 
-returns : tie.Need-returns
-returns c = by-scalar _ _ _ _ _ _ _ (c .before .before .if1 .taken) (c .scalar-products .ensures)
-
-returns-2 : tie.Need-returns-2
-returns-2 c = by-register _ _ _ _ _ _ _ (c .before .before .if1 .left) (c .register-products .ensures)
-
 pub products-spec : {M : Type 1} → statement M
 products-spec =
-    tie.close (tie.spec
+    tie.close
+    (tie.spec
     (λ c κs. search needs)
-    returns
+    (λ c. search (by-scalar, needs))
     (λ c κs. search needs)
-    returns-2)
+    (λ c. search (by-register, needs)))

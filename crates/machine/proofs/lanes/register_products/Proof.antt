@@ -1,9 +1,10 @@
--- `register_products` meets its contract. Assumes nothing.
+-- `register_products` meets its contract: the elements of the set that are left are still to be multiplied or divided. Assumes nothing.
 use Rattle.machine.proofs.LaneLoops.{lands, takes}
 use Rattle.machine.specs.Working.{lanes, laneIn, plainly}
 use Rattle.element.specs.Working.{productWork}
 use mathlib.Core.Bool.{false}
 use mathlib.Core.Path.{refl}
+use Prim.Native.Nat.{_<_}
 use native.Mathlib.Omega.{arith}
 use borrow.Author.Needs.{needs}
 use Rattle.numbers.proofs.SetBits.{Walk, starts-walk, ends-walk, index-below, less-left, turns-walk}
@@ -20,29 +21,12 @@ abbrev μ-loop : tie.MeasureT-loop
 loop-holds : tie.Need-loop-holds Inv-loop μ-loop
 loop-holds c = search (starts-walk, needs)
 
-va-of-requires : tie.Need-va-of-requires Inv-loop μ-loop
-va-of-requires c κs =
+-- the element of a turn
+index : (l : tie.After-lowest Inv-loop μ-loop) → l .lowest .result < 64
+index l =
     let at : tie.At-loop Inv-loop μ-loop = search needs in
-    let l : tie.After-lowest Inv-loop μ-loop = search needs in
     let v = at .loop .inv in
-    let b = index-below _ _ _ _ _ _ v (omega arith) (v .small) _ (l .lowest .ensures) in
-    search needs
-
-vb-of-requires : tie.Need-vb-of-requires Inv-loop μ-loop
-vb-of-requires c κs =
-    let at : tie.At-loop Inv-loop μ-loop = search needs in
-    let l : tie.After-lowest Inv-loop μ-loop = search needs in
-    let v = at .loop .inv in
-    let b = index-below _ _ _ _ _ _ v (omega arith) (v .small) _ (l .lowest .ensures) in
-    search needs
-
-product-requires : tie.Need-product-requires Inv-loop μ-loop
-product-requires c κs =
-    let at : tie.At-loop Inv-loop μ-loop = search needs in
-    let l : tie.After-lowest Inv-loop μ-loop = search needs in
-    let v = at .loop .inv in
-    let b = index-below _ _ _ _ _ _ v (omega arith) (v .small) _ (l .lowest .ensures) in
-    search needs
+    index-below _ _ _ _ _ _ v (omega arith) (v .small) _ (l .lowest .ensures)
 
 loop-less : tie.Need-loop-less Inv-loop μ-loop
 loop-less c =
@@ -66,7 +50,7 @@ loop-again c =
     (lands w (a .instruction) _ _ _ _ _ _ _ (z .vb-of .ensures) refl refl (c .before .product .ensures)))
 
 returns : tie.Need-returns Inv-loop μ-loop
-returns c = ends-walk _ _ _ _ _ _ (c .before .loop .inv) (c .loop-test .left)
+returns c = search (ends-walk, needs)
 
 pub register-products-spec : {M : Type 1} → statement M
 register-products-spec =
@@ -76,10 +60,10 @@ register-products-spec =
     μ-loop
     loop-holds
     (λ c κs. search needs)
-    va-of-requires
-    vb-of-requires
+    (λ c κs. search (index, needs))
+    (λ c κs. search (index, needs))
     (λ c. search needs)
-    product-requires
+    (λ c κs. search (index, needs))
     (λ c κs. search needs)
     loop-less
     loop-again

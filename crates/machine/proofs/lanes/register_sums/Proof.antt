@@ -1,10 +1,11 @@
--- `register_sums` meets its contract. Assumes nothing.
+-- `register_sums` meets its contract: the elements of the set that are left are still to be added or subtracted. Assumes nothing.
 use Rattle.machine.proofs.LaneLoops.{lands, takes}
 use Rattle.machine.specs.Working.{lanes, laneIn, plainly}
 use Rattle.element.specs.Working.{sumWork}
 use mathlib.Core.Bool.{false}
 use mathlib.Core.Logic.{⊎-elim}
 use mathlib.Core.Path.{sym, _∙_}
+use Prim.Native.Nat.{_<_}
 use native.Mathlib.Omega.{arith}
 use borrow.Author.Needs.{needs}
 use Rattle.numbers.proofs.SetBits.{Walk, starts-walk, ends-walk, index-below, less-left, turns-walk}
@@ -21,43 +22,18 @@ abbrev μ-loop : tie.MeasureT-loop
 loop-holds : tie.Need-loop-holds Inv-loop μ-loop
 loop-holds c = search (starts-walk, needs)
 
-va-of-requires : tie.Need-va-of-requires Inv-loop μ-loop
-va-of-requires c κs =
+-- the element of a turn
+index : (l : tie.After-lowest Inv-loop μ-loop) → l .lowest .result < 64
+index l =
     let at : tie.At-loop Inv-loop μ-loop = search needs in
-    let l : tie.After-lowest Inv-loop μ-loop = search needs in
     let v = at .loop .inv in
-    let b = index-below _ _ _ _ _ _ v (omega arith) (v .small) _ (l .lowest .ensures) in
-    search needs
-
-vb-of-requires : tie.Need-vb-of-requires Inv-loop μ-loop
-vb-of-requires c κs =
-    let at : tie.At-loop Inv-loop μ-loop = search needs in
-    let l : tie.After-lowest Inv-loop μ-loop = search needs in
-    let v = at .loop .inv in
-    let b = index-below _ _ _ _ _ _ v (omega arith) (v .small) _ (l .lowest .ensures) in
-    search needs
-
-vc-of-requires : tie.Need-vc-of-requires Inv-loop μ-loop
-vc-of-requires c κs =
-    let at : tie.At-loop Inv-loop μ-loop = search needs in
-    let l : tie.After-lowest Inv-loop μ-loop = search needs in
-    let v = at .loop .inv in
-    let b = index-below _ _ _ _ _ _ v (omega arith) (v .small) _ (l .lowest .ensures) in
-    search needs
+    index-below _ _ _ _ _ _ v (omega arith) (v .small) _ (l .lowest .ensures)
 
 special-sum-or-difference-requires : tie.Need-special-sum-or-difference-requires Inv-loop μ-loop
 special-sum-or-difference-requires c κs = sym (c .before .is-special .ensures) ∙ c .if1 .taken
 
 common-sum-or-difference-requires : tie.Need-common-sum-or-difference-requires Inv-loop μ-loop
 common-sum-or-difference-requires c κs = sym (c .before .is-special .ensures) ∙ c .if1 .left
-
-land-requires : tie.Need-land-requires Inv-loop μ-loop
-land-requires c κs =
-    let at : tie.At-loop Inv-loop μ-loop = search needs in
-    let l : tie.After-lowest Inv-loop μ-loop = search needs in
-    let v = at .loop .inv in
-    let b = index-below _ _ _ _ _ _ v (omega arith) (v .small) _ (l .lowest .ensures) in
-    search needs
 
 loop-less : tie.Need-loop-less Inv-loop μ-loop
 loop-less c =
@@ -71,8 +47,7 @@ loop-again c =
     let at : tie.At-loop Inv-loop μ-loop = search needs in
     let l : tie.After-lowest Inv-loop μ-loop = search needs in
     let v = at .loop .inv in
-    let k : tie.After-land Inv-loop μ-loop = search needs in
-    let j = k .before .before .before in
+    let j : tie.Joined1 Inv-loop μ-loop = search needs in
     let z : tie.After-vc-of Inv-loop μ-loop = search needs in
     let x : tie.After-va-of Inv-loop μ-loop = search needs in
     let y : tie.After-vb-of Inv-loop μ-loop = search needs in
@@ -85,7 +60,7 @@ loop-again c =
     (⊎-elim (λ w. w .2 ∙ w .1 .ensures _) (λ w. w .2 ∙ w .1 .ensures) (j .if1 .came)) (c .before .land .ensures)))
 
 returns : tie.Need-returns Inv-loop μ-loop
-returns c = ends-walk _ _ _ _ _ _ (c .before .loop .inv) (c .loop-test .left)
+returns c = search (ends-walk, needs)
 
 pub register-sums-spec : {M : Type 1} → statement M
 register-sums-spec =
@@ -95,14 +70,14 @@ register-sums-spec =
     μ-loop
     loop-holds
     (λ c κs. search needs)
-    va-of-requires
-    vb-of-requires
-    vc-of-requires
+    (λ c κs. search (index, needs))
+    (λ c κs. search (index, needs))
+    (λ c κs. search (index, needs))
     (λ c κs. search needs)
     special-sum-or-difference-requires
     common-sum-or-difference-requires
     (λ c. search needs)
-    land-requires
+    (λ c κs. search (index, needs))
     (λ c κs. search needs)
     loop-less
     loop-again

@@ -1,4 +1,4 @@
--- `short` meets its contract. Assumes nothing.
+-- `short` meets its contract: the element's own work lands in vc. Assumes nothing.
 use Rattle.machine.proofs.LaneLoops.{lands}
 use borrow.Author.Needs.{needs}
 use Rattle.machine.proofs.lanes.short.Statement.{statement}

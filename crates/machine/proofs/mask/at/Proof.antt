@@ -1,4 +1,4 @@
--- `at` meets its contract. Assumes nothing.
+-- `at` meets its contract: the bit of the element is replaced by what its compare gave. Assumes nothing.
 use Rattle.machine.proofs.Compares.{is-compare, compared-one}
 use Rattle.element.specs.declared.Out.{Out}
 use Rattle.numbers.specs.Bits.{withBit}
@@ -15,8 +15,8 @@ one-requires c κs =
 
 returns : tie.Need-returns
 returns c =
-    let o = c .before .before in
-    let s = o .before .before in
+    let s : tie.Start = search needs in
+    let o : tie.After-one = search needs in
     let a = s .args in
     let is = o .one .ensures in (
       λ p e f.

@@ -1,7 +1,7 @@
--- `every` meets its contract. Assumes nothing.
+-- `every` meets its contract: the elements from i on were compared, and their bits stand in order. Assumes nothing.
 use Rattle.machine.proofs.Compares.{nothing, room, one-more, done}
 use Rattle.machine.specs.Working.{comparedAt, oddFrom}
-use Prim.Native.Nat.{_≤_, _-_, _/_}
+use Prim.Native.Nat.{_≤_, _<_, _-_, _/_, _^_}
 use mathlib.Core.Path.{_≡_, refl}
 use native.Mathlib.Omega.{arith}
 use borrow.Author.Needs.{needs}
@@ -20,25 +20,20 @@ abbrev μ-loop : tie.MeasureT-loop
 loop-holds : tie.Need-loop-holds Inv-loop μ-loop
 loop-holds c = search (nothing, needs)
 
-mul-found : tie.Need-mul-found Inv-loop μ-loop
-mul-found c = let r = room _ _ _ _ (c .before .before .loop .inv .1) (omega arith) (omega arith) in search needs
-
-add-found : tie.Need-add-found Inv-loop μ-loop
-add-found c = let l = c .before .before .before .loop .inv in let r = room _ _ _ _ (l .1) (omega arith) (omega arith) in search needs
-
-mul-refused : tie.Need-mul-refused Inv-loop μ-loop
-mul-refused c = let l = c .before .before .before .loop .inv in let r = room _ _ _ _ (l .2) (omega arith) (omega arith) in search needs
-
-add-refused : tie.Need-add-refused Inv-loop μ-loop
-add-refused c = let l = c .before .before .before .before .loop .inv in let r = room _ _ _ _ (l .2) (omega arith) (omega arith) in search needs
+-- there is room for one more bit in each set
+rooms : (l : tie.In-loop Inv-loop μ-loop) → (l .before .loop .found < 2 ^ 63) × (l .before .loop .refused < 2 ^ 63)
+rooms l =
+    let v = l .before .loop .inv in
+    (room _ _ _ _ (v .1) (omega arith) (omega arith), room _ _ _ _ (v .2) (omega arith) (omega arith))
 
 loop-again : tie.Need-loop-again Inv-loop μ-loop
 loop-again c =
-    let o = c .before .before in
-    let l = o .before .before .loop .inv in (
+    let at : tie.At-loop Inv-loop μ-loop = search needs in
+    let o : tie.After-one Inv-loop μ-loop = search needs in
+    let v = at .loop .inv in (
       search needs,
-      rw (o .one .ensures) (one-more _ _ _ _ (l .1) _ refl (omega arith) (omega arith)),
-      rw (o .one .ensures) (one-more _ _ _ _ (l .2) _ refl (omega arith) (omega arith)),
+      rw (o .one .ensures) (one-more _ _ _ _ (v .1) _ refl (omega arith) (omega arith)),
+      rw (o .one .ensures) (one-more _ _ _ _ (v .2) _ refl (omega arith) (omega arith)),
     )
 
 returns : tie.Need-returns Inv-loop μ-loop
@@ -53,10 +48,10 @@ every-spec =
     loop-holds
     (λ c. search needs)
     (λ c κs. search needs)
-    mul-found
-    add-found
-    mul-refused
-    add-refused
+    (λ c. let r = rooms (search needs) in search needs)
+    (λ c. let r = rooms (search needs) in search needs)
+    (λ c. let r = rooms (search needs) in search needs)
+    (λ c. let r = rooms (search needs) in search needs)
     (λ c. search needs)
     loop-again
     returns)

@@ -1,3 +1,4 @@
+-- `opposed` meets its contract: with bit <2> what was neither found nor refused, and without it what was found. Assumes nothing.
 use mathlib.Core.Path.{refl, ap, _∙_}
 use mathlib.Core.Bool.{not}
 use lib.Bits.{or-lt}

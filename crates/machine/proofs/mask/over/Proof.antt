@@ -1,7 +1,8 @@
--- `over` meets its contract. Assumes nothing.
+-- `over` meets its contract: the bits of the set are what was found, and the notes tell whether one of them was refused. Assumes nothing.
 use Rattle.machine.proofs.Compares.{is-compare, compared}
 use borrow.Author.Tests.{eq-eqb, ne-eqb}
 use mathlib.Core.Path.{refl, sym}
+use Prim.Native.Nat.{_<_}
 use borrow.Author.Needs.{needs}
 use Rattle.machine.proofs.mask.over.Statement.{statement}
 use Rattle.machine.proofs.mask.over.Tie as tie
@@ -12,25 +13,27 @@ either-requires c κs =
 
 returns : tie.Need-returns
 returns c =
-    let s = c .before .before .before in
-    let a = s .args in
-    let m = c .before .before .either in (
+    let s : tie.Start = search needs in
+    let small : s .args .instruction .work < 256 = search needs in
+    let m : tie.After-either = search needs in
+    let a = s .args in (
       λ p e f.
-          compared (a .instruction) (a .x) (a .which) _ p (search needs) (s .pre .0 .2) (a .n) (m .result .found) (m .result .refused) (record { vmr = _; vcr = _; notes = _; wrote = 0 })
-          (s .pre .0 .1) (s .pre .1)
-          (m .ensures .0) (m .ensures .1) (λ k. rw e (c .before .replaced .ensures k)) (sym f) (rw (eq-eqb _ _ (c .if1 .taken))),
+          compared (a .instruction) (a .x) (a .which) _ p small (s .pre .0 .2) (a .n) (m .either .result .found) (m .either .result .refused)
+          (record { vmr = _; vcr = _; notes = _; wrote = 0 }) (s .pre .0 .1) (s .pre .1) (m .either .ensures .0) (m .either .ensures .1)
+          (λ k. rw e (c .before .replaced .ensures k)) (sym f) (rw (eq-eqb _ _ (c .if1 .taken))),
       refl,
     )
 
 returns-2 : tie.Need-returns-2
 returns-2 c =
-    let s = c .before .before .before in
-    let a = s .args in
-    let m = c .before .before .either in (
+    let s : tie.Start = search needs in
+    let small : s .args .instruction .work < 256 = search needs in
+    let m : tie.After-either = search needs in
+    let a = s .args in (
       λ p e f.
-          compared (a .instruction) (a .x) (a .which) _ p (search needs) (s .pre .0 .2) (a .n) (m .result .found) (m .result .refused) (record { vmr = _; vcr = _; notes = _; wrote = 0 })
-          (s .pre .0 .1) (s .pre .1)
-          (m .ensures .0) (m .ensures .1) (λ k. rw e (c .before .replaced .ensures k)) (sym f) (rw (ne-eqb _ _ (c .if1 .left))),
+          compared (a .instruction) (a .x) (a .which) _ p small (s .pre .0 .2) (a .n) (m .either .result .found) (m .either .result .refused)
+          (record { vmr = _; vcr = _; notes = _; wrote = 0 }) (s .pre .0 .1) (s .pre .1) (m .either .ensures .0) (m .either .ensures .1)
+          (λ k. rw e (c .before .replaced .ensures k)) (sym f) (rw (ne-eqb _ _ (c .if1 .left))),
       refl,
     )
 

@@ -1,3 +1,4 @@
+-- `element_of` meets its contract: what stands at the register's place. Assumes nothing.
 use borrow.Author.Needs.{needs}
 use Rattle.machine.proofs.operand.element_of.Statement.{statement}
 use Rattle.machine.proofs.operand.element_of.Tie as tie

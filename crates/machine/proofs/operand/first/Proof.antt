@@ -1,4 +1,4 @@
--- `first` meets its contract. Assumes nothing.
+-- `first` meets its contract: the scalar, or va's element, by the form. Assumes nothing.
 use borrow.Author.Needs.{needs}
 use Rattle.machine.proofs.operand.first.Statement.{statement}
 use Rattle.machine.proofs.operand.first.Tie as tie

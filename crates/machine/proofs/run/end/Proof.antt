@@ -1,4 +1,4 @@
--- `end` meets its contract. Assumes nothing.
+-- `end` meets its contract: VAER has what was gathered, and the status is changed where something was recorded. Assumes nothing.
 use Rattle.machine.specs.Run.{ended}
 use borrow.Author.Needs.{needs}
 use Rattle.machine.proofs.run.end.Statement.{statement}
@@ -6,7 +6,9 @@ use Rattle.machine.proofs.run.end.Tie as tie
 
 returns : tie.Need-returns
 unfolding ended
-returns c = rw (c .before .before .if1 .taken, c .with-bit2 .ensures, c .before .with-bit .ensures)
+returns c =
+    let t : tie.Then1 = search needs in
+    rw (t .if1 .taken, c .with-bit2 .ensures, c .before .with-bit .ensures)
 
 returns-2 : tie.Need-returns-2
 unfolding ended

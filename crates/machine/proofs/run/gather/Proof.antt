@@ -1,4 +1,4 @@
--- `gather` meets its contract. Assumes nothing.
+-- `gather` meets its contract: what was gathered, joined with the notes. Assumes nothing.
 use Rattle.machine.specs.Run.{joined}
 use mathlib.Core.Path.{refl}
 use Rattle.machine.proofs.run.gather.Statement.{statement}

@@ -1,3 +1,4 @@
+-- `note` meets its contract: nothing where no type was recorded, or else the types and the register's bit. Assumes nothing.
 use borrow.Author.Tests.{eq-eqb, ne-eqb}
 use Rattle.machine.specs.Step.{notes}
 use Rattle.machine.proofs.run.note.Statement.{statement}
