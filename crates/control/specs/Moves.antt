@@ -10,7 +10,7 @@ use Rattle.state.specs.declared.Control.{Control}
 use Rattle.state.specs.declared.answer.Answer.{Answer}
 use Rattle.state.specs.declared.answer.Answer.the-variants.{Done, Disabled, ValueRefused, OutOfRange}
 use Rattle.state.specs.Outcome.{Outcome, outcome, refused}
-use Rattle.state.specs.State.{inRange, enabled, lengthInRange}
+use Rattle.state.specs.State.{withVlr, withVmr, withVcr, withVaer, withVpsr, inRange, enabled, lengthInRange}
 
 -- ---- reading a value: refused where the move is not allowed in the processor's present state
 unfoldable pub readWhen : Bool → Control → ℕ → Answer
@@ -50,20 +50,11 @@ abbrev pub writeEnabled : Bool → Control → Control → Outcome Control
 writeEnabled accepted c next = writeWhen (enabled c) accepted c next
 
 -- VLR or VCR above 64 gets 11
-abbrev pub withVlr : Control → ℕ → Control
-withVlr c v = record { vlr = v; vmr = c .vmr; vcr = c .vcr; vaer = c .vaer; vpsr = c .vpsr }
-
 abbrev pub vlrWritten : Control → ℕ → Outcome Control
 vlrWritten c v = writeEnabled (lengthInRange v) c (withVlr c v)
 
-abbrev pub withVcr : Control → ℕ → Control
-withVcr c v = record { vlr = c .vlr; vmr = c .vmr; vcr = v; vaer = c .vaer; vpsr = c .vpsr }
-
 abbrev pub vcrWritten : Control → ℕ → Outcome Control
 vcrWritten c v = writeEnabled (lengthInRange v) c (withVcr c v)
-
-abbrev pub withVmr : Control → ℕ → Control
-withVmr c v = record { vlr = c .vlr; vmr = v; vcr = c .vcr; vaer = c .vaer; vpsr = c .vpsr }
 
 abbrev pub vmrLowWritten : Control → ℕ → Outcome Control
 vmrLowWritten c v = writeEnabled true c (withVmr c (withLow (c .vmr) v))
@@ -81,7 +72,7 @@ abbrev pub vpsrAccepted : ℕ → Bool
 vpsrAccepted v = settingAllowed (v % 2 ^ 4) && eqb (v / 2 ^ 4 % 2) 0 && eqb (v / 2 ^ 8 % 2 ^ 16) 0 && eqb (v / 2 ^ 26 % 2 ^ 5) 0
 
 abbrev pub withStatus : Control → ℕ → ℕ → Control
-withStatus c vaer vpsr = record { vlr = c .vlr; vmr = c .vmr; vcr = c .vcr; vaer = vaer; vpsr = vpsr }
+withStatus c vaer vpsr = withVpsr (withVaer c vaer) vpsr
 
 -- a one in bit 1 clears VPSR and VAER
 abbrev pub afterReset : Control → ℕ → Control

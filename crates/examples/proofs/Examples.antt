@@ -23,7 +23,8 @@ use Rattle.floating.specs.Round.{rounded}
 use Rattle.floating.specs.Delivered.{delivered}
 use Rattle.element.specs.Receives.{resultOf}
 use Rattle.machine.specs.Run.{joined, ended}
-use Rattle.machine.specs.Step.{operated, received, notes, written, worked, elementStep}
+use Rattle.machine.specs.Step.{received, notes, written, worked, elementStep}
+use Rattle.opcodes.specs.Masking.{operated}
 use Rattle.machine.specs.Iota.{matching, turned, walked, iotaStep}
 use Rattle.machine.specs.Instruction.{stepOf, stepsBelow, wholeOf, instructionDone}
 use Rattle.numbers.specs.Rising.{rising}

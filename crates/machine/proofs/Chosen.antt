@@ -1,15 +1,15 @@
 -- The work of the set of all elements that an instruction operates on is the instruction, and of one of them its step. Assumes nothing.
-use mathlib.Core.Path.{_≡_, refl, sym, ap, ap₂, _∙_}
-use mathlib.Core.Bool.{Bool, true, false, not, _||_, _&&_, Bool·beq}
+use mathlib.Core.Path.{_≡_, refl, sym, ap, _∙_}
+use mathlib.Core.Bool.{Bool, true, false}
 use Prim.Native.Nat.{ℕ, zero, suc, _%_, _≤_, _<_}
 use native.Mathlib.Nat.{mod-lt, le-refl}
 use native.Mathlib.Omega.{arith}
-use borrow.Author.Tests.{ltb-true, le-ltb}
+use borrow.Author.Tests.{ltb-true}
 use lib.ListN.{set}
 use lib.Dec.{ltb}
 use Rattle.numbers.specs.Choice.{pick}
 use Rattle.numbers.specs.Bits.{bit, withBit}
-use Rattle.numbers.specs.Working.{chosen, OnesBelow, ofOnes}
+use Rattle.numbers.specs.Working.{OnesBelow, ofOnes}
 use Rattle.numbers.specs.Rising.{rising}
 use Rattle.numbers.proofs.BitLaws.{bit-kept, bit-replaced, decEq}
 use Rattle.numbers.proofs.Sets.{bit-none}
@@ -17,12 +17,14 @@ use Rattle.numbers.proofs.Rising.{settles}
 use Rattle.numbers.proofs.SetBits.{single}
 use Rattle.numbers.proofs.Tests.{true-not-false, and-left, pick-true, pick-false}
 use Rattle.state.specs.declared.Control.{Control}
-use Rattle.state.specs.State.{placeOf}
-use Rattle.state.specs.Elements.{matches}
+use Rattle.state.specs.State.{placeOf, withVmr}
 use Rattle.opcodes.specs.declared.Instruction.{Instruction}
-use Rattle.opcodes.specs.Opcodes.{writesMask, inOneStep, ignoresMoe}
-use Rattle.machine.specs.Run.{Run, run, progress, withVmr}
-use Rattle.machine.specs.Step.{operated, received, written, worked, elementStep}
+use Rattle.opcodes.specs.Opcodes.{writesMask, inOneStep}
+use Rattle.machine.specs.Run.{Run, run, progress}
+use Rattle.machine.specs.Step.{received, written, worked, elementStep}
+use Rattle.opcodes.specs.Masking.{operated}
+use Rattle.opcodes.specs.Working.{OperatedSet}
+use Rattle.opcodes.proofs.OperatedOn.{is-operated, none-past}
 use Rattle.machine.specs.Iota.{iotaStep}
 use Rattle.machine.specs.Instruction.{stepOf, stepsBelow, wholeOf}
 use Rattle.machine.specs.Working.{doneFor}
@@ -84,26 +86,14 @@ module _ (ins : Instruction) (scalar which : ℕ) (r : Run) where
 
 -- ---- the set of the elements that an instruction operates on
 module _ (ins : Instruction) (scalar all : ℕ) (r : Run) (short : r .progress .control .vlr ≤ 64) where
-  abbrev merge : Bool
-  merge = ignoresMoe ins
-
   abbrev Operated : Type 0
-  Operated = OnesBelow (r .progress .control .vlr) (chosen (ins .moe && not merge) (ins .mtf) (r .progress .control .vmr)) all
+  Operated = OperatedSet ins (r .progress .control .vlr) (r .progress .control .vmr) all
 
   module _ (set : Operated) where
-    same-choice : (moe m x : Bool) → (not moe || m || x) ≡ (not (moe && not m) || x)
-    same-choice true true x = refl
-    same-choice true false x = refl
-    same-choice false m x = refl
-
     -- each step finds its element operated on exactly where the set has it
-    is-operated : (n : ℕ) (c : Control) → c .vlr ≡ r .progress .control .vlr → bit (c .vmr) n ≡ bit (r .progress .control .vmr) n
+    operated-here : (n : ℕ) (c : Control) → c .vlr ≡ r .progress .control .vlr → bit (c .vmr) n ≡ bit (r .progress .control .vmr) n
         → operated ins c n ≡ bit all n
-    unfolding operated
-    is-operated n c e f =
-        ap₂ (λ (v : ℕ) (b : Bool). ltb n v && (not (ins .moe) || merge || Bool·beq b (ins .mtf))) e f
-        ∙ ap (λ (t : Bool). ltb n (r .progress .control .vlr) && t) (same-choice (ins .moe) merge (matches (r .progress .control .vmr) (ins .mtf) n))
-        ∙ sym (set .ones n)
+    operated-here = is-operated ins (r .progress .control .vlr) (r .progress .control .vmr) all set
 
     module _ (no-iota : inOneStep ins ≡ false) where
       of-element : (n : ℕ) (x : Run) → stepOf ins scalar n x ≡ elementStep ins scalar n x
@@ -118,7 +108,7 @@ module _ (ins : Instruction) (scalar all : ℕ) (r : Run) (short : r .progress .
           ap (stepOf ins scalar n) (same-steps n)
           ∙ of-element n here
           ∙ ap (λ (t : Bool). pick t (worked ins scalar n here) here)
-          (is-operated n (here .progress .control) (stays-vlr ins scalar all r n) (stays-bit ins scalar all r n n (le-refl n)))
+          (operated-here n (here .progress .control) (stays-vlr ins scalar all r n) (stays-bit ins scalar all r n n (le-refl n)))
         where
           here : Run
           here = after ins scalar all r n
@@ -127,21 +117,18 @@ module _ (ins : Instruction) (scalar all : ℕ) (r : Run) (short : r .progress .
       unfolding wholeOf ofOnes
       all-steps =
           sym (settles (ofOnes (worked ins scalar) all) (after ins scalar all r vlr) r vlr 64 short
-          (λ j h _. pick-false (bit all j) (worked ins scalar j (after ins scalar all r vlr)) (after ins scalar all r vlr) (past j h)) refl)
+          (λ j h _. pick-false (bit all j) (worked ins scalar j (after ins scalar all r vlr)) (after ins scalar all r vlr) (none-past ins vlr (r .progress .control .vmr) all set j h)) refl)
           ∙ sym (same-steps vlr)
           ∙ ap (λ (t : Bool). stepsBelow (pick t 1 vlr) ins scalar r) (sym no-iota)
         where
           vlr : ℕ
           vlr = r .progress .control .vlr
 
-          past : (j : ℕ) → vlr ≤ j → bit all j ≡ false
-          past j h = set .ones j ∙ ap (λ (t : Bool). t && chosen (ins .moe && not merge) (ins .mtf) (r .progress .control .vmr) j) (le-ltb j vlr h)
-
     -- the step of one element: its work, or nothing
     module _ (i : ℕ) (no-iota : inOneStep ins ≡ false) where
       its-step : (t : Bool) → bit all i ≡ t → pick t (worked ins scalar i r) r ≡ stepOf ins scalar i r
       unfolding elementStep
-      its-step t e = sym (of-element no-iota i r ∙ ap (λ (u : Bool). pick u (worked ins scalar i r) r) (is-operated i (r .progress .control) refl refl ∙ e))
+      its-step t e = sym (of-element no-iota i r ∙ ap (λ (u : Bool). pick u (worked ins scalar i r) r) (operated-here i (r .progress .control) refl refl ∙ e))
 
       pub taken : bit all i ≡ true → worked ins scalar i r ≡ stepOf ins scalar i r
       taken e = its-step true e

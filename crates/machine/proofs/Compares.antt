@@ -32,7 +32,8 @@ use Rattle.element.proofs.Opposites.{opposite-types, opposite-bit}
 use Rattle.machine.specs.declared.Effect.{Effect}
 use Rattle.machine.specs.declared.Progress.{Progress}
 use Rattle.machine.specs.declared.Gathered.{Gathered}
-use Rattle.machine.specs.Run.{Run, run, progress, withVmr, withVcr, noted, joined}
+use Rattle.machine.specs.Run.{Run, run, progress, noted, joined}
+use Rattle.state.specs.State.{withVmr, withVcr}
 use Rattle.machine.specs.Step.{first, second, chooses, received, registerBit, notes, written, recorded, worked}
 use Rattle.machine.specs.Iota.{iotaStep}
 use Rattle.machine.specs.Working.{operandAt, comparedAt, oddFrom, OddBelow, effected, doneFor}

@@ -23,7 +23,8 @@ use Rattle.machine.specs.declared.Effect.{Effect}
 use Rattle.machine.specs.declared.Gathered.{Gathered}
 use Rattle.machine.specs.declared.Progress.{Progress}
 use Rattle.opcodes.specs.Opcodes.{inOneStep}
-use Rattle.machine.specs.Run.{run, progress, withVmr, withVcr, nothing, noted, joined}
+use Rattle.machine.specs.Run.{run, progress, nothing, noted, joined}
+use Rattle.state.specs.State.{withVmr, withVcr}
 use Rattle.state.specs.Elements.{matches}
 use Rattle.machine.specs.Iota.{matching, put, turned, walked, iotaStep}
 use Rattle.machine.specs.Working.{matched, Counted, counted, iotaTurn, effected, doneFor}

@@ -8,14 +8,15 @@ use lib.Dec.{eqb}
 use lib.Bits.{bitOr}
 use Rattle.numbers.specs.Choice.{pick}
 use Rattle.state.specs.declared.Control.{Control}
-use Rattle.state.specs.State.{vaerInRange, enabled}
+use Rattle.state.specs.State.{vaerInRange, enabled, withVaer}
 use Rattle.state.proofs.Ranges.{Ranged, vaer-or, vaer-register}
 use Rattle.state.proofs.Ranges.{stopped as stopped-status}
 use Rattle.opcodes.specs.declared.Instruction.{Instruction}
 use Rattle.element.proofs.Types.{types-in-range}
 use Rattle.opcodes.specs.Opcodes.{workAt, writesMask, inOneStep}
-use Rattle.machine.specs.Run.{Run, withVaer, stopped, joined, ended}
-use Rattle.machine.specs.Step.{operated, received, registerBit, notes, written, worked, elementStep}
+use Rattle.machine.specs.Run.{Run, stopped, joined, ended}
+use Rattle.machine.specs.Step.{received, registerBit, notes, written, worked, elementStep}
+use Rattle.opcodes.specs.Masking.{operated}
 use Rattle.machine.specs.Iota.{iotaStep}
 use Rattle.machine.specs.Instruction.{stepOf, stepsBelow, stepCount, wholeOf}
 use Rattle.machine.proofs.IotaLaws.{matching-le}

@@ -11,7 +11,7 @@ use Rattle.numbers.specs.Rising.{rising}
 use Rattle.numbers.proofs.BitLaws.{bit-complement}
 use Rattle.numbers.proofs.SetBits.{ones-carry}
 use Rattle.numbers.proofs.Tests.{pick-true, pick-false}
-use Rattle.state.specs.State.{placeOf}
+use Rattle.state.specs.State.{placeOf, withVmr, withVcr}
 use Rattle.state.specs.Elements.{at, matches}
 use Rattle.opcodes.specs.declared.Instruction.{Instruction}
 use Rattle.opcodes.specs.Working.{isRegisterWork, isLaneWork}
@@ -22,7 +22,7 @@ use Rattle.element.specs.Receives.{resultOf}
 use Rattle.machine.specs.declared.Effect.{Effect}
 use Rattle.machine.specs.declared.Gathered.{Gathered}
 use Rattle.machine.specs.declared.Progress.{Progress}
-use Rattle.machine.specs.Run.{Run, run, progress, withVmr, withVcr, noted, joined}
+use Rattle.machine.specs.Run.{Run, run, progress, noted, joined}
 use Rattle.machine.specs.Step.{first, second, received, registerBit, notes, written, recorded, worked}
 use Rattle.machine.specs.Iota.{iotaStep}
 use Rattle.machine.specs.Working.{matched, Lanes, lanes, lane, effected, doneFor, wroteOf}

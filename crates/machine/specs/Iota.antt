@@ -5,9 +5,9 @@ use Prim.Native.Nat.{ℕ, zero, suc, _+_, _*_, _%_, _^_}
 use lib.ListN.{set}
 use Rattle.numbers.specs.Choice.{pick}
 use Rattle.numbers.specs.Halves.{low, withLow}
-use Rattle.state.specs.State.{placeOf}
+use Rattle.state.specs.State.{placeOf, withVcr}
 use Rattle.opcodes.specs.declared.Instruction.{Instruction}
-use Rattle.machine.specs.Run.{Run, run, progress, withVcr}
+use Rattle.machine.specs.Run.{Run, run, progress}
 use Rattle.state.specs.Elements.{at, matches}
 
 -- the number of matching mask bits below n

@@ -7,7 +7,7 @@ use lib.Bits.{bitOr}
 use Rattle.numbers.specs.Choice.{pick}
 use Rattle.numbers.specs.Bits.{withBit}
 use Rattle.state.specs.declared.Control.{Control}
-use Rattle.state.specs.State.{State, state}
+use Rattle.state.specs.State.{State, state, withVaer, withVpsr}
 use Rattle.machine.specs.declared.Gathered.{Gathered}
 use Rattle.machine.specs.declared.Progress.{Progress}
 
@@ -36,18 +36,6 @@ progress c g = record { control = c; gathered = g }
 -- nothing at the start
 abbrev pub begun : State → Run
 begun s = run (s .elements) (progress (s .control) nothing)
-
-abbrev pub withVmr : Control → ℕ → Control
-withVmr c v = record { vlr = c .vlr; vmr = v; vcr = c .vcr; vaer = c .vaer; vpsr = c .vpsr }
-
-abbrev pub withVcr : Control → ℕ → Control
-withVcr c v = record { vlr = c .vlr; vmr = c .vmr; vcr = v; vaer = c .vaer; vpsr = c .vpsr }
-
-abbrev pub withVaer : Control → ℕ → Control
-withVaer c v = record { vlr = c .vlr; vmr = c .vmr; vcr = c .vcr; vaer = v; vpsr = c .vpsr }
-
-abbrev pub withVpsr : Control → ℕ → Control
-withVpsr c v = record { vlr = c .vlr; vmr = c .vmr; vcr = c .vcr; vaer = c .vaer; vpsr = v }
 
 -- Only now, if anything was recorded, VEN is cleared and AEX set. VAER gets its bits along the way: nothing within a run reads it and or is bound to no
 -- order, so what was gathered joins it here, once.

@@ -1,25 +1,21 @@
 -- Document 01, "What an element receives" and "Queues and orders": the step of one element.
-use mathlib.Core.Bool.{Bool, false, not, _&&_, _||_}
+use mathlib.Core.Bool.{Bool, false}
 use mathlib.Core.List.{List}
 use Prim.Native.Nat.{ℕ, _+_, _%_, _^_}
-use lib.Dec.{ltb, eqb}
+use lib.Dec.{eqb}
 use lib.Bits.{bitOr}
 use lib.ListN.{set}
 use Rattle.numbers.specs.Choice.{pick}
 use Rattle.numbers.specs.Bits.{withBit}
-use Rattle.state.specs.declared.Control.{Control}
 use Rattle.state.specs.Elements.{at, matches}
-use Rattle.state.specs.State.{placeOf}
+use Rattle.state.specs.State.{placeOf, withVmr}
 use Rattle.opcodes.specs.declared.Instruction.{Instruction}
 use Rattle.opcodes.specs.Opcodes.{workAt, writesMask, ignoresMoe, readsVa, readsVb}
+use Rattle.opcodes.specs.Masking.{operated}
 use Rattle.opcodes.specs.ControlWord.{fieldOf}
 use Rattle.element.specs.declared.Out.{Out}
 use Rattle.element.specs.Receives.{resultOf}
-use Rattle.machine.specs.Run.{Run, run, progress, withVmr, noted, joined}
-
--- i < VLR and (MOE = 0 or VMR<i> = MTF); merge ignores MOE
-unfoldable pub operated : Instruction → Control → ℕ → Bool
-operated ins c i = ltb i (c .vlr) && (not (ins .moe) || ignoresMoe ins || matches (c .vmr) (ins .mtf) i)
+use Rattle.machine.specs.Run.{Run, run, progress, noted, joined}
 
 -- ---- what a work is handed; 0 stands for what it does not read
 -- Va's element, or the scalar in its place

@@ -11,7 +11,7 @@ use Rattle.numbers.specs.Choice.{pick}
 use Rattle.numbers.specs.Bits.{bit}
 use Rattle.numbers.specs.Working.{lowBits, complement, ofOnes}
 use Rattle.numbers.specs.Rising.{rising}
-use Rattle.state.specs.State.{placeOf}
+use Rattle.state.specs.State.{placeOf, withVmr, withVcr}
 use Rattle.state.specs.Elements.{at}
 use Rattle.opcodes.specs.declared.Instruction.{Instruction}
 use Rattle.opcodes.specs.Works.{Work, Convert}
@@ -21,7 +21,7 @@ use Rattle.element.specs.declared.Out.{Out}
 use Rattle.element.specs.Receives.{resultOf}
 use Rattle.machine.specs.declared.Effect.{Effect}
 use Rattle.machine.specs.declared.Progress.{Progress}
-use Rattle.machine.specs.Run.{Run, progress, withVmr, withVcr, noted, joined}
+use Rattle.machine.specs.Run.{Run, progress, noted, joined}
 use Rattle.machine.specs.Step.{first, second, worked}
 use Rattle.machine.specs.Iota.{iotaStep, put}
 

@@ -7,15 +7,15 @@ use crate::mask;
 use crate::run;
 use numbers::bits;
 use opcodes::Instruction;
+use opcodes::masking::operated;
 use opcodes::works;
 use state::Element;
 use state::Register;
 ghost use mathlib.Core.Path.{_≡_};
-ghost use mathlib.Core.Bool.{true, false, not, _&&_};
+ghost use mathlib.Core.Bool.{true, false};
 ghost use Prim.Native.Nat.{ℕ, _<_, _≤_};
 ghost use Rattle.numbers.specs.Bits.{bit, withBit};
-ghost use Rattle.numbers.specs.Working.{chosen, OnesBelow};
-ghost use Rattle.opcodes.specs.Opcodes.{inOneStep, ignoresMoe};
+ghost use Rattle.opcodes.specs.Opcodes.{inOneStep};
 ghost use Rattle.machine.specs.Run.{run as runOf};
 ghost use Rattle.machine.specs.Step.{registerBit, notes, worked};
 ghost use Rattle.machine.specs.Instruction.{stepOf, wholeOf};
@@ -35,19 +35,6 @@ fn matched(vmr: u64, mtf: bool) -> u64
     ensures { λ r. ⌜ r ≡ matchedOf vmr mtf ⌝ }
 {
     if mtf { vmr } else { !vmr }
-}
-
-// The set of the elements that an instruction operates on.
-fn operated(instruction: Instruction, vlr: u64, vmr: u64) -> u64
-    requires { ⌜ vlr ≤ 64 ⌝ }
-    ensures { λ r. ⌜ OnesBelow vlr (chosen (instruction .moe && not (ignoresMoe instruction)) (instruction .mtf) vmr) r ⌝ }
-{
-    bits::chosen_below(
-        instruction.moe & !works::ignores_moe(instruction.work),
-        instruction.mtf,
-        vmr,
-        vlr,
-    )
 }
 
 // What a work that writes the elements of a set leaves beside them.

@@ -1,12 +1,11 @@
 -- A whole memory instruction, by what its parts promise. Assumes nothing.
-use mathlib.Core.Bool.{Bool, true, false, not, _&&_}
-use mathlib.Core.Path.{_≡_, sym, ap, ap₂, _∙_}
+use mathlib.Core.Bool.{Bool, true, false, not}
+use mathlib.Core.Path.{_≡_, refl, sym, ap, ap₂, _∙_}
 use mathlib.Core.List.{List}
 use Prim.Native.Nat.{ℕ, _+_, _%_, _^_, _≤_}
 use lib.ListN.{length, getD}
-use borrow.Author.Tests.{not-true, not-false, le-ltb}
+use borrow.Author.Tests.{not-true, not-false}
 use Rattle.numbers.specs.Bits.{bit}
-use Rattle.numbers.specs.Working.{OnesBelow}
 use Rattle.state.specs.declared.answer.Answer.{Answer}
 use Rattle.state.specs.declared.answer.Answer.the-variants.{Done, WindowRefused}
 use Rattle.state.specs.declared.answer.Ended.{Ended}
@@ -14,6 +13,9 @@ use Rattle.state.specs.Outcome.{Outcome, outcome, refused}
 use Rattle.state.specs.State.{State, state}
 use Rattle.state.proofs.Refusing.{refuses-window}
 use Rattle.opcodes.specs.declared.Instruction.{Instruction}
+use Rattle.opcodes.specs.Masking.{operated}
+use Rattle.opcodes.specs.Working.{OperatedSet}
+use Rattle.opcodes.proofs.OperatedOn.{is-operated, none-past}
 use Rattle.memory.specs.declared.Addressing.{Addressing}
 use Rattle.memory.specs.declared.Fault.{Fault}
 use Rattle.memory.specs.declared.Test.{Test}
@@ -21,7 +23,7 @@ use Rattle.memory.specs.declared.Search.{Search}
 use Rattle.memory.specs.declared.Search.the-variants as search
 use Rattle.memory.specs.Works.{isStore, isQuadword, sizeOf}
 use Rattle.memory.specs.Window.{allowed}
-use Rattle.memory.specs.Address.{addressOf, chosenBy, operated, testStep, tested}
+use Rattle.memory.specs.Address.{addressOf, testStep, tested}
 use Rattle.memory.specs.Working.{addressIn, testsAt, AllWithin, Searched}
 use Rattle.memory.specs.Move.{loadStep, storeStep, movesBy, badElement, unlessBad, movedBy, movedOf}
 use Rattle.numbers.proofs.Rising.{cut}
@@ -91,18 +93,20 @@ module _ (s : State) (ins : Instruction) (base stride : ℕ) (w : List ℕ) (ori
 
     -- `a` says the addresses, from a base that is taken from the origin, and `which` are the elements that are operated on
     pub done : (a : Addressing) → a .offsets ≡ ins .scalar → (a .base + origin % 2 ^ 32) % 2 ^ 32 ≡ base → a .stride ≡ stride → a .vb .0 ≡ ins .vb .0
-        → s .control .vlr ≤ 64 → (which : ℕ) → OnesBelow (s .control .vlr) (chosenBy (ins .moe) (ins .mtf) (s .control .vmr)) which
+        → s .control .vlr ≤ 64 → (which : ℕ) → OperatedSet ins (s .control .vlr) (s .control .vmr) which
         → (store quadword : Bool) → store ≡ isStore (ins .work) → quadword ≡ isQuadword (ins .work)
         → (vc : ℕ) → vc ≡ ins .vc .0
         → (m : Outcome (State × List ℕ))
         → m ≡ movedBy store quadword vc (bit which) (testsAt (sizeOf quadword) (length w) (addressIn a (s .elements))) (addressIn a (s .elements)) 64 s w
         → m ≡ movedOf s ins base stride w origin
-    unfolding movedOf
+    unfolding movedOf operated
     done a offsets begins strides vb short which chosen store quadword es eq vc ev m e =
         let g : allowed (length w) origin ≡ true = sym said ∙ not-false fit passed in
+        let here : (i : ℕ) → operated ins (s .control) i ≡ bit which i =
+        λ i. is-operated ins (s .control .vlr) (s .control .vmr) which chosen i (s .control) refl refl in
         let k = like (s .control .vlr) 64 short (bit which) (operated ins (s .control)) _ (addressIn a (s .elements))
-        (chosen .ones)
-        (λ i h. ap (λ (b : Bool). b && chosenBy (ins .moe) (ins .mtf) (s .control .vmr) i) (le-ltb i (s .control .vlr) h))
+        (λ i. sym (here i))
+        (λ i h. here i ∙ none-past ins (s .control .vlr) (s .control .vmr) which chosen i h)
         store quadword vc s w in
         let r = relative store quadword origin vc (operated ins (s .control)) (addressOf ins base stride (s .elements)) (addressIn a (s .elements))
         (s .control .vlr) s w

@@ -10,6 +10,7 @@ use Rattle.state.specs.Outcome.{Outcome}
 use Rattle.state.specs.State.{State, state}
 use Rattle.opcodes.specs.Works.{LoadLongword, LoadQuadword, StoreLongword, rowOf}
 use Rattle.opcodes.specs.Opcodes.{workAt, rowAt}
+use Rattle.opcodes.specs.Masking.{operated}
 use Rattle.opcodes.specs.declared.Instruction.{Instruction}
 use Rattle.numbers.specs.Rising.{rising}
 use Rattle.memory.specs.Window.{allowed}
@@ -63,13 +64,13 @@ after work offsets moe vlr vmr base stride w origin = movedOf (state elements (w
 
 -- stride 0: the highest wins, and the other bytes are kept
 stride-0 : after store false false 2 0 0x104 0 (9 ∷ 9 ∷ 9 ∷ 9 ∷ 9 ∷ 9 ∷ 9 ∷ 9 ∷ 9 ∷ []) 0x100 .left .1 ≡ 9 ∷ 9 ∷ 9 ∷ 9 ∷ 2 ∷ 0 ∷ 0 ∷ 0 ∷ 9 ∷ []
-unfolding movedOf rowAt rowOf workAt allowed testOf testStep storeStep rising
+unfolding movedOf operated rowAt rowOf workAt allowed testOf testStep storeStep rising
 stride-0 = refl
 
 -- a gather of longwords keeps the high halves
 gather : after load true false 2 0 0x100 0 (1 ∷ 2 ∷ 3 ∷ 4 ∷ 5 ∷ 6 ∷ 7 ∷ 8 ∷ 9 ∷ 0 ∷ 0 ∷ 0 ∷ []) 0x100 .left .0 .elements
     ≡ replicate 64 0 ++ (0xA00000009 ∷ 0xB04030201 ∷ replicate 62 0) ++ (8 ∷ 0 ∷ replicate 62 0)
-unfolding movedOf rowAt rowOf workAt allowed testOf testStep loadStep rising
+unfolding movedOf operated rowAt rowOf workAt allowed testOf testStep loadStep rising
 gather = refl
 
 -- a longword at window end minus 3 and minus 4, and in a window that ends a byte too early; a quadword at end minus 4
@@ -77,7 +78,7 @@ at-the-end : (after load false false 1 0 0x10D 0 (replicate 16 0) 0x100 .answer 
     × (after load false false 1 0 0x10C 0 (replicate 16 0) 0x100 .answer ≡ Done 0)
     × (after load false false 1 0 0x10C 0 (replicate 15 0) 0x100 .answer ≡ OutsideWindow 0)
     × (after loadQuadwords false false 1 0 0x10C 0 (replicate 16 0) 0x100 .answer ≡ Misaligned 0)
-unfolding movedOf rowAt rowOf workAt allowed testOf testStep loadStep rising
+unfolding movedOf operated rowAt rowOf workAt allowed testOf testStep loadStep rising
 at-the-end = (refl, refl, refl, refl)
 
 -- element 0 is outside and element 1 misaligned: the lowest is named. Where element 1 alone is misaligned it is named, unless it
@@ -86,11 +87,11 @@ bad-elements : (after store false false 2 0 0x110 1 (replicate 16 0) 0x100 .answ
     × (after store false false 2 0 0x100 1 (replicate 16 0) 0x100 .answer ≡ Misaligned 1)
     × (after store false true 2 1 0x100 1 (replicate 16 0) 0x100 .answer ≡ Done 0)
     × (after store false false 1 0 0x100 1 (replicate 16 0) 0x100 .answer ≡ Done 0)
-unfolding movedOf rowAt rowOf workAt allowed testOf testStep storeStep rising
+unfolding movedOf operated rowAt rowOf workAt allowed testOf testStep storeStep rising
 bad-elements = (refl, refl, refl, refl)
 
 -- a window that is not allowed is refused at VLR 0 too; an empty one may stand at 2^32, and has no element
 windows : (after store false false 0 0 0 0 [] 4 .answer ≡ WindowRefused)
     × (after store false false 1 0 0 0 [] (2 ^ 32) .answer ≡ OutsideWindow 0)
-unfolding movedOf rowAt rowOf workAt allowed testOf testStep storeStep rising
+unfolding movedOf operated rowAt rowOf workAt allowed testOf testStep storeStep rising
 windows = (refl, refl)

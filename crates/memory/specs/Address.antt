@@ -1,12 +1,11 @@
 -- Document 01, "Memory": the address of each element, and the tests of the operated ones.
-use mathlib.Core.Bool.{Bool, not, _&&_, _||_}
+use mathlib.Core.Bool.{Bool, _&&_}
 use mathlib.Core.List.{List}
 use Prim.Native.Nat.{ℕ, _+_, _*_, _%_, _^_}
-use lib.Dec.{ltb, leb, eqb}
+use lib.Dec.{leb, eqb}
 use Rattle.numbers.specs.Choice.{pick}
 use Rattle.numbers.specs.Halves.{low}
-use Rattle.state.specs.Elements.{at, matches}
-use Rattle.state.specs.declared.Control.{Control}
+use Rattle.state.specs.Elements.{at}
 use Rattle.opcodes.specs.declared.Instruction.{Instruction}
 use Rattle.memory.specs.declared.Test.{Test}
 use Rattle.memory.specs.declared.Test.the-variants as test
@@ -29,14 +28,6 @@ addressBy offsets base stride l vb = pick offsets (offsetBy base l vb) (strided 
 
 abbrev pub addressOf : Instruction → ℕ → ℕ → List ℕ → ℕ → ℕ
 addressOf ins base stride l = addressBy (ins .scalar) base stride l (ins .vb .0)
-
--- MOE = 0 or VMR<i> = MTF
-abbrev pub chosenBy : Bool → Bool → ℕ → ℕ → Bool
-chosenBy moe mtf vmr i = not moe || matches vmr mtf i
-
--- element i is operated on: i < VLR and (MOE = 0 or VMR<i> = MTF)
-abbrev pub operated : Instruction → Control → ℕ → Bool
-operated ins c i = ltb i (c .vlr) && chosenBy (ins .moe) (ins .mtf) (c .vmr) i
 
 -- alignment is tested before the window
 abbrev pub found : Bool → Bool → Test

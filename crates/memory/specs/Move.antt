@@ -19,7 +19,8 @@ use Rattle.memory.specs.declared.Search.{Search}
 use Rattle.memory.specs.declared.Search.the-variants as search
 use Rattle.memory.specs.Works.{isStore, isQuadword, sizeOf}
 use Rattle.memory.specs.Window.{allowed, numberAt, putAt}
-use Rattle.memory.specs.Address.{addressOf, operated, testOf, tested}
+use Rattle.opcodes.specs.Masking.{operated}
+use Rattle.memory.specs.Address.{addressOf, testOf, tested}
 
 -- what a loaded element holds: a quadword is all of it, a longword its low half, and the high half is kept
 abbrev pub received : Bool → ℕ → ℕ → ℕ

@@ -1,5 +1,6 @@
 // Memory instructions over the lent elements and the lent window.
 use opcodes::Instruction;
+use opcodes::masking;
 use opcodes::works;
 use state::Control;
 use state::Register;
@@ -114,12 +115,7 @@ pub fn transfer(
     }
     let work = instruction.work;
     let n = control.vlr as usize;
-    let which = numbers::bits::chosen_below(
-        instruction.moe,
-        instruction.mtf,
-        control.vmr,
-        control.vlr,
-    );
+    let which = masking::operated(instruction, control.vlr, control.vmr);
     // From here on the window stands at 0: its origin is taken from the base once, and not from each address.
     let start = std::num::wrapping_sub_u32(base, (origin % 4294967296) as u32);
     let addressing = Addressing {

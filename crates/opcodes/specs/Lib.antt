@@ -3,4 +3,5 @@ pub mod Works
 pub mod Opcodes
 pub mod ControlWord
 pub mod Decoding
+pub mod Masking
 pub mod Working

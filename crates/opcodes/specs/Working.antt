@@ -5,9 +5,10 @@ use Prim.Native.Nat.{ℕ, _%_, _<_}
 use lib.Dec.{eqb, leb}
 use lib.ListN.{length}
 use Rattle.numbers.specs.Choice.{pick}
+use Rattle.numbers.specs.Working.{chosen, OnesBelow}
 use Rattle.opcodes.specs.declared.Instruction.{Instruction}
 use Rattle.opcodes.specs.Works.{Holds, registers, relation, relationAlone, conversion, isMove, isMaskBit, isCounted}
-use Rattle.opcodes.specs.Opcodes.{table, rowAt}
+use Rattle.opcodes.specs.Opcodes.{table, rowAt, ignoresMoe}
 
 -- n is one of a list
 abbrev pub named : List ℕ → ℕ → Bool
@@ -42,3 +43,7 @@ wordTest conversion loads = 3
 -- an accepted opcode takes a scalar, or offsets, exactly when odd
 abbrev pub odd : ℕ → Bool
 odd k = eqb (k % 2) 1
+
+-- the elements that an instruction operates on, as the ones of a number
+abbrev pub OperatedSet : Instruction → ℕ → ℕ → ℕ → Type 0
+OperatedSet ins vlr vmr all = OnesBelow vlr (chosen (ins .moe && not (ignoresMoe ins)) (ins .mtf) vmr) all

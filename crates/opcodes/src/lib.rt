@@ -4,6 +4,7 @@ ghost use mathlib.Core.Path.{_≡_};
 ghost use Rattle.opcodes.specs.Decoding.{decodedOf};
 
 mod control_word;
+pub mod masking;
 mod table;
 pub mod works;
 

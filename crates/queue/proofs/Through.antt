@@ -15,7 +15,8 @@ use Rattle.opcodes.specs.Opcodes.{workAt, rowAt, writesMask, inOneStep}
 use Rattle.opcodes.specs.Working.{inTable, isRegisterWork}
 use Rattle.opcodes.proofs.Passed.{passed, register-work}
 use Rattle.machine.specs.Run.{Run}
-use Rattle.machine.specs.Step.{operated, received, written, worked, elementStep}
+use Rattle.machine.specs.Step.{received, written, worked, elementStep}
+use Rattle.opcodes.specs.Masking.{operated}
 use Rattle.machine.specs.Iota.{iotaStep}
 use Rattle.machine.specs.Instruction.{stepOf, stepsBelow, stepCount, wholeOf}
 use Rattle.touch.specs.Parts.{Queue, size, decodedIn, placeholder, instructionOr, instructionAt, scalarAt}

@@ -13,6 +13,22 @@ pub record State : Type 0 where
 abbrev pub state : List ℕ → Control → State
 state l c = record { elements = l; control = c }
 
+-- the control record with one of its numbers replaced
+abbrev pub withVlr : Control → ℕ → Control
+withVlr c v = record { vlr = v; vmr = c .vmr; vcr = c .vcr; vaer = c .vaer; vpsr = c .vpsr }
+
+abbrev pub withVmr : Control → ℕ → Control
+withVmr c v = record { vlr = c .vlr; vmr = v; vcr = c .vcr; vaer = c .vaer; vpsr = c .vpsr }
+
+abbrev pub withVcr : Control → ℕ → Control
+withVcr c v = record { vlr = c .vlr; vmr = c .vmr; vcr = v; vaer = c .vaer; vpsr = c .vpsr }
+
+abbrev pub withVaer : Control → ℕ → Control
+withVaer c v = record { vlr = c .vlr; vmr = c .vmr; vcr = c .vcr; vaer = v; vpsr = c .vpsr }
+
+abbrev pub withVpsr : Control → ℕ → Control
+withVpsr c v = record { vlr = c .vlr; vmr = c .vmr; vcr = c .vcr; vaer = c .vaer; vpsr = v }
+
 -- where element e of register r stands in that list
 abbrev pub placeOf : ℕ → ℕ → ℕ
 placeOf r e = r * 64 + e

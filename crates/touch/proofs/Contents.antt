@@ -13,7 +13,8 @@ use Rattle.numbers.specs.Choice.{pick}
 use Rattle.numbers.specs.Bits.{withBit}
 use Rattle.numbers.proofs.BitLaws.{digit, same-digits, digit-replaced, digit-kept}
 use Rattle.machine.specs.declared.Gathered.{Gathered}
-use Rattle.machine.specs.Run.{Run, run, progress, withVmr}
+use Rattle.machine.specs.Run.{Run, run, progress}
+use Rattle.state.specs.State.{withVmr}
 use Rattle.machine.specs.Step.{recorded}
 use Rattle.touch.specs.Touch.{maskPlace, countPlace}
 

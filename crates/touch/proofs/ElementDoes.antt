@@ -20,7 +20,8 @@ use Rattle.element.specs.declared.Out.{Out}
 use Rattle.element.specs.Receives.{resultOf}
 use Rattle.machine.specs.declared.Gathered.{Gathered}
 use Rattle.machine.specs.Run.{Run, nothing, noted, joined}
-use Rattle.machine.specs.Step.{operated, received, registerBit, notes, written, worked, elementStep}
+use Rattle.machine.specs.Step.{received, registerBit, notes, written, worked, elementStep}
+use Rattle.opcodes.specs.Masking.{operated}
 use Rattle.machine.proofs.Gather.{joined-nothing}
 use Rattle.order.specs.Order.{Mem}
 use Rattle.touch.specs.Touch.{elementPlace, maskPlace, countPlace, placeIf, elementReads, writtenPlace}

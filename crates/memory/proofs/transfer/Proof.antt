@@ -14,11 +14,11 @@ returns c =
 
 all-or-none-requires : tie.Need-all-or-none-requires
 all-or-none-requires c κs =
-    let chosen : tie.After-chosen-below = search needs in
+    let chosen : tie.After-operated = search needs in
     let e : tie.Else1 = search needs in let start : tie.Start = search needs in let args = start .args in
     let h = ends-in-time (state (args .elements .now) (args .control)) (args .instruction) (args .base) (args .stride) (args .window .now)
     (args .origin) _ (e .before .allowed .ensures) (e .if1 .left) in
-    (search needs, search needs, search needs, chosen .chosen-below .ensures .small, omega arith)
+    (search needs, search needs, search needs, chosen .operated .ensures .small, omega arith)
 
 returns-2 : tie.Need-returns-2
 returns-2 c = search (done, needs)
