@@ -131,8 +131,8 @@ longword-stands exc s x n l h =
     past (suc (suc k)) l = absurd (omega arith)
 
 -- ---- the answer
-pub low-bits-made : (s n a b r : ℕ) → a ≡ (4294967296 - n % 4294967296) % 4294967296 → b ≡ n % 4294967296 → r ≡ pick (eqb s 1) a b → r ≡ low32 (integer s n)
-low-bits-made s n a b r ha hb hr = hr ∙ ap₂ (λ (y z : ℕ). pick (eqb s 1) y z) ha hb ∙ sym (low-of s n)
+pub longword-made : (s n a b r : ℕ) → a ≡ (4294967296 - n % 4294967296) % 4294967296 → b ≡ n % 4294967296 → r ≡ pick (eqb s 1) a b → r ≡ low32 (integer s n)
+longword-made s n a b r ha hb hr = hr ∙ ap₂ (λ (y z : ℕ). pick (eqb s 1) y z) ha hb ∙ sym (low-of s n)
 
 pub record-made : (exc t : Bool) (s n v y : ℕ) → t ≡ overflows (integer s n) → v ≡ low32 (integer s n) → y ≡ pick (exc && t) 32 0
     → record { value = v; types = y } ≡ longword exc (integer s n)

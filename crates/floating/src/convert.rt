@@ -37,7 +37,7 @@ fn whole_above(e: u32, m: u64) -> u64
 }
 
 // The low 32 bits of n, or of minus n.
-fn low_bits(s: u32, n: u64) -> u32
+fn longword_of(s: u32, n: u64) -> u32
     ensures { λ r. ⌜ r ≡ low32 (integer s n) ⌝ }
 {
     let low = n % 4294967296;
@@ -68,13 +68,13 @@ pub fn to_longword(word: u32, halves: u64, exc: bool) -> Flagged
     let m = word::significand_of(word);
     if e <= format::F_UNIT {
         return Flagged {
-            value: low_bits(s, whole_below(e, m, halves)),
+            value: longword_of(s, whole_below(e, m, halves)),
             types: 0,
         };
     }
     let n = whole_above(e, m);
     Flagged {
-        value: low_bits(s, n),
+        value: longword_of(s, n),
         types: word::chosen(exc & is_wide(s, n), 32, 0),
     }
 }

@@ -248,13 +248,13 @@ module _ (w : Width) (written : Control → ℕ → Outcome Control) where
               (filled (tyInt w) l₂ (vint w n) (filled record-ref l₁ (vptr b o) (empty (tyInt w32) l₀ [])))))))
 
           -- the cell of the record, which is c now, and the borrow that is open; what is had of `beside`; the locals
-          abbrev After : Written → Control → Bool → List (Item 𝓤)
-          After r c t = ‵ (cellAt fullShare (T.the-row .mir) (vals c) b o) ∷ ‵ (fobor κ q (Body (mem T.the-row) b o γ))
+          abbrev Returned : Written → Control → Bool → List (Item 𝓤)
+          Returned r c t = ‵ (cellAt fullShare (T.the-row .mir) (vals c) b o) ∷ ‵ (fobor κ q (Body (mem T.the-row) b o γ))
               ∷ ‵ (fobs γ (T.the-row .coded .code h)) ∷ ‵ (fauth γ (T.the-row .coded .code h)) ∷ token ∷ lent ∷ ‵ ftrue ∷ Locals r t
 
           -- what follows the branch, with the record c where it stands
           leaves : (r : Written) (vs : List Val) → Is R.the-row r vs → (c : Control) (t : Bool)
-              → outcome (r .answer) c ≡ written h n → Is T.the-row c (vals c) → Sq W (After r c t) (runs C Λ E rest (atRet E Post))
+              → outcome (r .answer) c ≡ written h n → Is T.the-row c (vals c) → Sq W (Returned r c t) (runs C Λ E rest (atRet E Post))
           leaves r vs is c t e c-is =
               -- the borrow is closed
               owned ! T.the-row (Is T.the-row) (LL.makes T.the-type T′.the-plain 𝓤 H A) c _ c-is $ move ! (1 ∷ 0 ∷ []) $ closes ! tt T.the-row c (vals c) b o $
@@ -286,7 +286,7 @@ module _ (w : Width) (written : Control → ℕ → Outcome Control) where
           -- the branch: the record that came back is stored; or the write was refused, and the one that stands there is the one that came back
           chosen : (r : Written) (vs : List Val) → Is R.the-row r vs → outcome (r .answer) (r .control) ≡ written h n
               → Is T.the-row h (vals h) → (t : Bool) → t ≡ isDone (r .answer)
-              → Sq W (After r h t) (runs C Λ E (seq store rest) (atRet E Post))
+              → Sq W (Returned r h t) (runs C Λ E (seq store rest) (atRet E Post))
           chosen r vs is e was t tested =
               first ! $ branches ! (load ! (from ! (stop !)) (look ! 9 refl))
               (λ _. assigns-last ! (of-opd ! (load ! (from ! (fld ! refl (stop !))) (look-in ! 13 (sub ! 1 refl (whole !)))))

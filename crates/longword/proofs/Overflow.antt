@@ -53,8 +53,8 @@ signs x y z p q c t u v on off on hx hy hz e f g = inside (omega arith) (omega a
 signs x y z p q c t u v on on off hx hy hz e f g = under (omega arith)
 signs x y z p q c t u v on on on hx hy hz e f g = inside (omega arith) (omega arith)
 
-turned : (x : ℕ) → x < 2 ^ 32 → (x + 2 ^ 31) % 2 ^ 32 + x / 2 ^ 31 * 2 ^ 31 ≡ x % 2 ^ 31 + 2 ^ 31
-turned x h = omega arith
+top-bit-moved : (x : ℕ) → x < 2 ^ 32 → (x + 2 ^ 31) % 2 ^ 32 + x / 2 ^ 31 * 2 ^ 31 ≡ x % 2 ^ 31 + 2 ^ 31
+top-bit-moved x h = omega arith
 
 carried : (x y z : ℕ) → z ≡ (x + y) % 2 ^ 32 → z / 2 ^ 31 * 2 ^ 31 + z % 2 ^ 31 + (x + y) / 2 ^ 32 * 2 ^ 32 ≡ x / 2 ^ 31 * 2 ^ 31 + x % 2 ^ 31 + (y / 2 ^ 31 * 2 ^ 31 + y % 2 ^ 31)
 carried x y z e = omega arith
@@ -64,7 +64,7 @@ sum-range : (x y z : ℕ) → x < 2 ^ 32 → y < 2 ^ 32 → z ≡ (x + y) % 2 ^ 
 sum-range x y z hx hy e =
     signs (x % 2 ^ 31) (y % 2 ^ 31) (z % 2 ^ 31) ((x + 2 ^ 31) % 2 ^ 32) ((y + 2 ^ 31) % 2 ^ 32) ((x + y) / 2 ^ 32) (x / 2 ^ 31) (y / 2 ^ 31) (z / 2 ^ 31)
     (bit (x / 2 ^ 31) (omega arith)) (bit (y / 2 ^ 31) (omega arith)) (bit (z / 2 ^ 31) (omega arith))
-    (omega arith) (omega arith) (omega arith) (carried x y z e) (turned x hx) (turned y hy)
+    (omega arith) (omega arith) (omega arith) (carried x y z e) (top-bit-moved x hx) (top-bit-moved y hy)
 
 -- p - q overflows where r + q does, r being the difference that 32 bits keep; all three in excess by 2^31
 moved : (p q r i j : ℕ) (t : Bool) → p < 2 ^ 32 → r < 2 ^ 32 → r + q + i * 2 ^ 32 ≡ p + 2 ^ 31 + j * 2 ^ 32

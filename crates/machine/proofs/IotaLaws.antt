@@ -41,11 +41,11 @@ matches-counts w vmr true i small h = ap (λ (t : Bool). pick t 1 0) (is-true (b
     is-true true = refl
     is-true false = refl
 matches-counts w vmr false i small h =
-    turned (bit vmr i) (digit vmr i) (bit-counts vmr i) ∙ sym (digit-complement w vmr i small h)
+    opposite-digit (bit vmr i) (digit vmr i) (bit-counts vmr i) ∙ sym (digit-complement w vmr i small h)
   where
-    turned : (t : Bool) (d : ℕ) → pick t 1 0 ≡ d → pick (Bool·beq t false) 1 0 ≡ 1 - d
-    turned true d e = ap (λ (n : ℕ). 1 - n) e
-    turned false d e = ap (λ (n : ℕ). 1 - n) e
+    opposite-digit : (t : Bool) (d : ℕ) → pick t 1 0 ≡ d → pick (Bool·beq t false) 1 0 ≡ 1 - d
+    opposite-digit true d e = ap (λ (n : ℕ). 1 - n) e
+    opposite-digit false d e = ap (λ (n : ℕ). 1 - n) e
 
 -- the ones of the mask or its complement, cut at n, are the matching bits below n
 pub ones-matching : (w vmr : ℕ) (mtf : Bool) (n : ℕ) → vmr < 2 ^ w → n ≤ w → ones (lowBits (pick mtf vmr (complement w vmr)) n) ≡ matching vmr mtf n

@@ -43,14 +43,6 @@ pub and-none : (a : Bool) → (a && false) ≡ false
 and-none true = refl
 and-none false = refl
 
-pub and-whole : (a : Bool) → (a && true) ≡ a
-and-whole true = refl
-and-whole false = refl
-
-pub or-alone : (a : Bool) → (a || false) ≡ a
-or-alone true = refl
-or-alone false = refl
-
 pub or-always : (a : Bool) → (a || true) ≡ true
 or-always true = refl
 or-always false = refl

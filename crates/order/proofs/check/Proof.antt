@@ -28,8 +28,8 @@ AtLoop = tie.At-loop Inv-loop μ-loop
 abbrev InLoop : Type 0
 InLoop = tie.In-loop Inv-loop μ-loop
 
-abbrev Passed : Type 0
-Passed = tie.Else1 Inv-loop μ-loop
+abbrev TriedAlone : Type 0
+TriedAlone = tie.Else1 Inv-loop μ-loop
 
 abbrev entry : AtLoop → Start
 entry c = search needs
@@ -67,10 +67,10 @@ returns c =
     (sym (v .comes .ensures .0) ∙ not-true _ (c .if1 .taken))
 
 -- the entry that `comes` has taken is marked
-abbrev turn-of : Passed → InLoop
+abbrev turn-of : TriedAlone → InLoop
 turn-of c = search needs
 
-one : (c : Passed) → let at = turn-of c .before in let a = entry at .args in
+one : (c : TriedAlone) → let at = turn-of c .before in let a = entry at .args in
     Marked (a .n) (a .vlr) (a .iotas) (a .bound .now) (a .list .now) (c .before .comes .last .0) (at .loop .i + 1)
 one c =
     let v = c .before in let turn = turn-of c in let at = turn .before in let s = entry at in let may = not-false _ (c .if1 .left) in
@@ -79,7 +79,7 @@ one c =
 
 ahead-requires-2 : tie.Need-ahead-requires-2 Inv-loop μ-loop
 ahead-requires-2 c κs =
-    let e : Passed = search needs in let f : tie.After-fill Inv-loop μ-loop = search needs in let s : Start = search needs in
+    let e : TriedAlone = search needs in let f : tie.After-fill Inv-loop μ-loop = search needs in let s : Start = search needs in
     ((one e .long, s .pre .0 .0, one e .on .inside), (s .pre .1, (f .fill .ensures, one e .sentinel-left)))
 
 loop-less : tie.Need-loop-less Inv-loop μ-loop
@@ -89,7 +89,7 @@ loop-less c =
 
 loop-again : tie.Need-loop-again Inv-loop μ-loop
 loop-again c =
-    let e : Passed = search needs in let s = entry (turn-of e .before) in
+    let e : TriedAlone = search needs in let s = entry (turn-of e .before) in
     taken-marked _ _ _ (s .pre .0 .0) (s .pre .0 .1) _ (s .pre .1) _ _ _ (one e) _ _ (c .ahead2 .ensures)
 
 ended-requires : tie.Need-ended-requires Inv-loop μ-loop

@@ -28,11 +28,11 @@ abbrev μ-loop : tie.MeasureT-loop
 abbrev Start : Type 0
 Start = tie.Start Inv-loop μ-loop
 
-abbrev Accepted : Type 0
-Accepted = tie.After-accept Inv-loop μ-loop
+abbrev AfterAccept : Type 0
+AfterAccept = tie.After-accept Inv-loop μ-loop
 
-abbrev Passed : Type 0
-Passed = tie.Else1 Inv-loop μ-loop
+abbrev QueueAccepted : Type 0
+QueueAccepted = tie.Else1 Inv-loop μ-loop
 
 abbrev AtLoop : Type 0
 AtLoop = tie.At-loop Inv-loop μ-loop
@@ -49,19 +49,19 @@ Checked = tie.After-check Inv-loop μ-loop
 abbrev Told : Type 0
 Told = tie.After-enum-told Inv-loop μ-loop
 
-abbrev entry : Passed → Start
+abbrev entry : QueueAccepted → Start
 entry c = search needs
 
-abbrev accepted : Passed → Accepted
+abbrev accepted : QueueAccepted → AfterAccept
 accepted c = search needs
 
 -- the queue is accepted
-fine : (c : Passed) → isDone (accepted c .accept .result .answer) ≡ true
+fine : (c : QueueAccepted) → isDone (accepted c .accept .result .answer) ≡ true
 fine c = sym (c .before .is-done .ensures) ∙ not-false _ (c .if1 .left)
 
 returns : tie.Need-returns Inv-loop μ-loop
 returns c =
-    let t : tie.Then1 Inv-loop μ-loop = search needs in let d : Accepted = search needs in let s : Start = search needs in let z = s .args in
+    let t : tie.Then1 Inv-loop μ-loop = search needs in let d : AfterAccept = search needs in let s : Start = search needs in let z = s .args in
     both-promises _ (z .list .now) (state (z .elements .now) (z .control)) _
     (listed-refused _ (z .elements .now) _ _ _ (d .accept .ensures) (sym (t .before .is-done .ensures) ∙ not-true _ (t .if1 .taken)) (z .list .now)
     (c .refused .result) (c .refused .ensures))
@@ -71,7 +71,7 @@ loop-holds c = prepared-none _ (listed-few _ (entry c .args .elements .now) _ _ 
 
 bind-requires : tie.Need-bind-requires Inv-loop μ-loop
 bind-requires c κs =
-    let turn : InLoop = search needs in let at : AtLoop = search needs in let e : Passed = search needs in
+    let turn : InLoop = search needs in let at : AtLoop = search needs in let e : QueueAccepted = search needs in
     let l = entry e .args .elements .now in let a = accepted e .accept .ensures in (
       listed-below _ l _ _ _ a (fine e) (at .loop .k) (turn .loop-test .taken),
       omega arith,
@@ -80,14 +80,14 @@ bind-requires c κs =
 
 loop-again : tie.Need-loop-again Inv-loop μ-loop
 loop-again c =
-    let turn : InLoop = search needs in let at : AtLoop = search needs in let e : Passed = search needs in
+    let turn : InLoop = search needs in let at : AtLoop = search needs in let e : QueueAccepted = search needs in
     prepared-more _ _ _ _ (at .loop .k) (at .loop .inv) (turn .loop-test .taken) _
     (accepted e .accept .ensures .decoded (fine e) (at .loop .k) (turn .loop-test .taken)) _
     (c .bind .ensures .0) _ _ (c .bind .ensures .1) (c .bind .ensures .2)
 
 check-requires : tie.Need-check-requires Inv-loop μ-loop
 check-requires c κs =
-    let at : AtLoop = search needs in let e : Passed = search needs in
+    let at : AtLoop = search needs in let e : QueueAccepted = search needs in
     check-meets _ (entry e .args .elements .now) _ _ _ (accepted e .accept .ensures) (fine e) _ _ _ _ (at .loop .inv) (c .before .loop-test .left)
 
 enum-told : tie.Need-enum-told Inv-loop μ-loop
@@ -96,14 +96,14 @@ enum-told c = search needs
 walk-requires : tie.Need-walk-requires Inv-loop μ-loop
 walk-requires c κs =
     let told : Told = search needs in let v : Checked = search needs in let out : AllBound = search needs in
-    let at : AtLoop = search needs in let e : Passed = search needs in let z = entry e .args in
+    let at : AtLoop = search needs in let e : QueueAccepted = search needs in let z = entry e .args in
     list-meets _ (z .elements .now) _ _ _ (accepted e .accept .ensures) (fine e) _ _ _ _ (at .loop .inv) (out .loop-test .left)
     (z .list .now) _ (v .check .ensures) (told .enum-told .given .1) _ (c .begin .ensures)
 
 returns-2 : tie.Need-returns-2 Inv-loop μ-loop
 returns-2 c =
     let b : tie.After-begin Inv-loop μ-loop = search needs in let told : Told = search needs in let v : Checked = search needs in
-    let out : AllBound = search needs in let at : AtLoop = search needs in let e : Passed = search needs in let z = entry e .args in
+    let out : AllBound = search needs in let at : AtLoop = search needs in let e : QueueAccepted = search needs in let z = entry e .args in
     both-promises _ (z .list .now) (state (z .elements .now) (z .control)) _
     (listed-done _ (z .elements .now) _ _ _ (accepted e .accept .ensures) (fine e) _ _ _ _ (at .loop .inv) (out .loop-test .left)
     (z .list .now) _ (v .check .ensures) (told .enum-told .given .1) _ (b .begin .ensures) _ _ _ (c .end .ensures) (c .before .walk .ensures))
@@ -111,7 +111,7 @@ returns-2 c =
 returns-3 : tie.Need-returns-3 Inv-loop μ-loop
 returns-3 c =
     let p : tie.After-place Inv-loop μ-loop = search needs in let v : Checked = search needs in let out : AllBound = search needs in
-    let at : AtLoop = search needs in let e : Passed = search needs in let z = entry e .args in
+    let at : AtLoop = search needs in let e : QueueAccepted = search needs in let z = entry e .args in
     both-promises _ (z .list .now) (state (z .elements .now) (z .control)) _
     (listed-stopped _ (z .elements .now) _ _ _ (accepted e .accept .ensures) (fine e) _ _ _ _ (at .loop .inv) (out .loop-test .left)
     (z .list .now) _ (v .check .ensures) _ (p .place .given .1) (c .refused2 .result) (c .refused2 .ensures))

@@ -13,7 +13,7 @@ returns-2 c =
     let a : tie.Start = search needs in
     let s : tie.After-sign-of = search needs in
     let n = c .before .whole-below in
-    let v = narrow-made (a .args .exc) (s .sign-of .result) (n .result) (c .low-bits .result) (search needs) (search needs) (c .low-bits .ensures) in
+    let v = narrow-made (a .args .exc) (s .sign-of .result) (n .result) (c .longword-of .result) (search needs) (search needs) (c .longword-of .ensures) in
     search (source-below F, needs)
 
 returns-3 : tie.Need-returns-3
@@ -24,10 +24,10 @@ returns-3 c =
     let zero : tie.Else1 = search needs in
     let m : tie.After-significand-of = search needs in
     let n : tie.After-whole-above = search needs in
-    let low : tie.After-low-bits2 = search needs in
+    let low : tie.After-longword-of2 = search needs in
     source-above F (a .exc) (a .word) (a .halves) (search needs) _ _ _ _ _ (e .exponent-of .ensures) (zero .if1 .left) (m .significand-of .ensures)
     (s .sign-of .ensures)
-    (record-made (a .exc) _ (s .sign-of .result) (n .whole-above .result) _ _ (c .before .is-wide .ensures) (low .low-bits2 .ensures) (c .chosen .ensures))
+    (record-made (a .exc) _ (s .sign-of .result) (n .whole-above .result) _ _ (c .before .is-wide .ensures) (low .longword-of2 .ensures) (c .chosen .ensures))
     (search needs) (n .whole-above .ensures)
 
 pub to-longword-spec : {M : Type 1} → statement M
