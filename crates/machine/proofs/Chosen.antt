@@ -117,7 +117,8 @@ module _ (ins : Instruction) (scalar all : ℕ) (r : Run) (short : r .progress .
       unfolding wholeOf ofOnes
       all-steps =
           sym (settles (ofOnes (worked ins scalar) all) (after ins scalar all r vlr) r vlr 64 short
-          (λ j h _. pick-false (bit all j) (worked ins scalar j (after ins scalar all r vlr)) (after ins scalar all r vlr) (none-past ins vlr (r .progress .control .vmr) all set j h)) refl)
+          (λ j h _. pick-false (bit all j) (worked ins scalar j (after ins scalar all r vlr)) (after ins scalar all r vlr)
+          (none-past ins vlr (r .progress .control .vmr) all set j h)) refl)
           ∙ sym (same-steps vlr)
           ∙ ap (λ (t : Bool). stepsBelow (pick t 1 vlr) ins scalar r) (sym no-iota)
         where
