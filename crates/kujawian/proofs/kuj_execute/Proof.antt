@@ -6,7 +6,10 @@ use Rattle.kujawian.proofs.kuj_execute.Tie as tie
 
 returns : tie.Need-returns
 unfolding executed
-returns c = cc
+returns c =
+    let of : tie.After-of = search needs in let done : tie.After-execute = search needs in
+    let kept : tie.After-store = search needs in
+    rw (c .give .ensures, kept .store .ensures, ← of .of .ensures, ← done .execute .ensures)
 
 pub kuj-execute-spec : {M : Type 1} → statement M
 kuj-execute-spec =

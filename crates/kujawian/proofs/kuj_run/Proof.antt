@@ -6,7 +6,10 @@ use Rattle.kujawian.proofs.kuj_run.Tie as tie
 
 returns : tie.Need-returns
 unfolding left
-returns c = cc
+returns c =
+    let of : tie.After-of = search needs in let done : tie.After-run = search needs in
+    let kept : tie.After-store = search needs in
+    rw (c .give .ensures, kept .store .ensures, ← of .of .ensures, ← done .run .ensures)
 
 pub kuj-run-spec : {M : Type 1} → statement M
 kuj-run-spec =

@@ -6,7 +6,10 @@ use Rattle.kujawian.proofs.kuj_run_order.Tie as tie
 
 returns : tie.Need-returns
 unfolding left
-returns c = (cc, cc)
+returns c =
+    let of : tie.After-of = search needs in let done : tie.After-run-order = search needs in
+    let kept : tie.After-store = search needs in
+    rw (c .give .ensures, kept .store .ensures, ← of .of .ensures) (rw (← done .run-order .ensures .0), rw (← done .run-order .ensures .1))
 
 pub kuj-run-order-spec : {M : Type 1} → statement M
 kuj-run-order-spec =

@@ -4,7 +4,9 @@ use Rattle.kujawian.proofs.kuj_save.Statement.{statement}
 use Rattle.kujawian.proofs.kuj_save.Tie as tie
 
 returns : tie.Need-returns
-returns c = cc
+returns c =
+    let of : tie.After-of = search needs in let done : tie.After-save = search needs in
+    rw (c .give .ensures, ← of .of .ensures, ← done .save .ensures)
 
 pub kuj-save-spec : {M : Type 1} → statement M
 kuj-save-spec =
