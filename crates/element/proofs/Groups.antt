@@ -19,7 +19,10 @@ use Rattle.element.specs.Working.{sumWork, isCompare}
 pub is-sum : (minus exc : Bool) (a b c w v : ℕ) (x : Flagged) → w ≡ low a → v ≡ low b → x ≡ answered exc (pick minus (difference F w v) (sum F w v))
     → floatingOut c x ≡ resultOf (sumWork minus) exc 0 false a b c
 unfolding resultOf
-is-sum minus exc a b c w v x hw hv hx = ap (floatingOut c) hx ∙ ap₂ (λ (y z : ℕ). floatingOut c (answered exc (pick minus (difference F y z) (sum F y z)))) hw hv ∙ at minus
+is-sum minus exc a b c w v x hw hv hx =
+    ap (floatingOut c) hx
+    ∙ ap₂ (λ (y z : ℕ). floatingOut c (answered exc (pick minus (difference F y z) (sum F y z)))) hw hv
+    ∙ at minus
   where
     at : (t : Bool) → floatingOut c (answered exc (pick t (difference F (low a) (low b)) (sum F (low a) (low b)))) ≡ resultOf (sumWork t) exc 0 false a b c
     at true = refl
@@ -37,7 +40,9 @@ pub compare-types : (n : ℕ) → isCompare n ≡ true → (relation a b : ℕ)
     → (resultOf (workAt n) false relation false a b 0 .types ≡ 0) ⊎ (resultOf (workAt n) false relation false a b 0 .types ≡ 4)
 unfolding resultOf workAt
 compare-types n e relation a b =
-    each-named (λ (k : ℕ). (resultOf (workAt k) false relation false a b 0 .types ≡ 0) ⊎ (resultOf (workAt k) false relation false a b 0 .types ≡ 4)) (13 ∷ 4 ∷ [])
+    each-named
+    (λ (k : ℕ). let t = resultOf (workAt k) false relation false a b 0 .types in (t ≡ 0) ⊎ (t ≡ 4))
+    (13 ∷ 4 ∷ [])
     (reserved (isReserved F (low a)) (isReserved F (low b)) _, (inl refl, tt)) n e
   where
     either : Bool → Bool → Bool → Compared

@@ -18,7 +18,9 @@ use Rattle.floating.specs.declared.Compared.{Compared}
 use Rattle.floating.specs.declared.Delivery.{Delivery}
 use Rattle.floating.specs.declared.Delivery.the-variants.{Word, Overflow, Underflow, Reserved, DivisionByZero, ReservedByZero}
 use Rattle.floating.specs.Operations.{answered, sum, difference, product, quotient, compared, toLongword, roundedLongword, truncatedLongword, fromLongword}
-use Rattle.opcodes.specs.Works.{Work, NoWork, AddLongword, SubtractLongword, MultiplyLongword, CompareLongword, BitSet, ExclusiveOr, BitClear, ShiftRight, ShiftLeft, AddF, SubtractF, MultiplyF, CompareF, Convert, Iota, Merge, LoadLongword, LoadQuadword, StoreLongword, StoreQuadword, DivideF}
+use Rattle.opcodes.specs.Works.{Work, NoWork, AddLongword, SubtractLongword, MultiplyLongword, CompareLongword, BitSet, ExclusiveOr, BitClear}
+use Rattle.opcodes.specs.Works.{ShiftRight, ShiftLeft, AddF, SubtractF, MultiplyF, DivideF, CompareF, Convert, Iota, Merge}
+use Rattle.opcodes.specs.Works.{LoadLongword, LoadQuadword, StoreLongword, StoreQuadword}
 use Rattle.element.specs.Receives.{converted, resultOf}
 
 abbrev answer : ℕ → ℕ → Flagged
@@ -41,7 +43,9 @@ of-outcome exc DivisionByZero = refl
 of-outcome exc ReservedByZero = refl
 
 of-compare : (f : Format) (relation a b : ℕ) → vaerInRange (compared f relation a b .types) ≡ true
-of-compare f relation a b = go (isReserved f a) (isReserved f b) (relationHolds relation (isLess (valueOf f a) (valueOf f b)) (isEqual (valueOf f a) (valueOf f b)))
+of-compare f relation a b =
+    let x = valueOf f a in let y = valueOf f b in
+    go (isReserved f a) (isReserved f b) (relationHolds relation (isLess x y) (isEqual x y))
   where
     go : (s t x : Bool) → vaerInRange (pick s (bitWith false 4) (pick t (bitWith false 4) (bitWith x 0)) .types) ≡ true
     go true t x = refl
@@ -62,7 +66,8 @@ of-longword f made exc w = go (isReserved f w) (exc && overflows whole)
 of-conversion : (conversion : ℕ) (exc : Bool) (b : ℕ) → vaerInRange (converted conversion exc b .types) ≡ true
 of-conversion conversion exc b = go (eqb conversion 5) (eqb conversion 4)
   where
-    go : (s t : Bool) → vaerInRange (pick s (roundedLongword F exc (low b)) (pick t (truncatedLongword F exc (low b)) (answered exc (fromLongword F (low b)))) .types) ≡ true
+    go : (s t : Bool)
+        → vaerInRange (pick s (roundedLongword F exc (low b)) (pick t (truncatedLongword F exc (low b)) (answered exc (fromLongword F (low b)))) .types) ≡ true
     go true t = of-longword F near exc (low b)
     go false true = of-longword F chopped exc (low b)
     go false false = of-outcome exc (fromLongword F (low b))

@@ -42,7 +42,8 @@ tests-done true true = refl
 tests-done true false = refl
 tests-done false f = refl
 
-module _ (elements : List ℕ) (l : List ℕ) (c : Control) (taken : c ≡ controlOf l) (register element kind : ℕ) (p : Panel) (given : Answered (state elements c) register element kind p) where
+module _ (elements l : List ℕ) (c : Control) (taken : c ≡ controlOf l) (register element kind : ℕ)
+    (p : Panel) (given : Answered (state elements c) register element kind p) where
   -- what the tests said
   passed : (inRange c && isField register element kind) ≡ isDone (panelAnswer p)
   unfolding fieldAnswer

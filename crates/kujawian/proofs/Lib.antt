@@ -1,4 +1,4 @@
--- The shape that the calls share, the numbers of a reading, and the walk of a control write.
-pub mod Calls
+-- The numbers of a reading, what a refused call leaves, and the walk of a control write.
 pub mod Fields
+pub mod Refusals
 pub mod Writes

@@ -18,7 +18,8 @@ unfolding differenceOf signed low32 overflows
 example-3 = (refl, refl)
 
 -- -1 minus 7FFFFFFF is -2^31, and times 1 is itself: no overflow
-lowest : (low32 (differenceOf 0xFFFFFFFF 0x7FFFFFFF) ≡ 0x80000000) × (overflows (differenceOf 0xFFFFFFFF 0x7FFFFFFF) ≡ false) × (overflows (productOf 0x80000000 1) ≡ false)
+lowest : (low32 (differenceOf 0xFFFFFFFF 0x7FFFFFFF) ≡ 0x80000000) × (overflows (differenceOf 0xFFFFFFFF 0x7FFFFFFF) ≡ false)
+    × (overflows (productOf 0x80000000 1) ≡ false)
 unfolding differenceOf productOf signed low32 overflows
 lowest = (refl, refl, refl)
 

@@ -1,4 +1,5 @@
--- The true sum, difference and product of two longwords as differences of natural numbers, in two ways: each longword less 2^32 where its top bit is set, and each in excess by 2^31.
+-- The true sum, difference and product of two longwords as differences of natural numbers, in two ways: each longword less 2^32 where its
+-- top bit is set, and each in excess by 2^31.
 use mathlib.Core.Path.{_≡_, _∙_}
 use Prim.Native.Nat.{ℕ, _+_, _*_, _/_, _%_, _^_, _<_}
 use native.Mathlib.Omega.{arith}

@@ -40,7 +40,8 @@ bit zero h = off
 bit (suc zero) h = on
 bit (suc (suc n)) h = absurd (omega arith)
 
--- the true sum of two longwords whose top bits are t and u, in excess by 2^31 p and q: with the carry c, 32 bits keep the top bit v. x, y and z are the other bits
+-- the true sum of two longwords whose top bits are t and u, in excess by 2^31 p and q: with the carry c, 32 bits keep the top bit v.
+-- x, y and z are the other bits
 signs : (x y z p q c t u v : ℕ) → Bit t → Bit u → Bit v → x < 2 ^ 31 → y < 2 ^ 31 → z < 2 ^ 31
     → v * 2 ^ 31 + z + c * 2 ^ 32 ≡ t * 2 ^ 31 + x + (u * 2 ^ 31 + y) → p + t * 2 ^ 31 ≡ x + 2 ^ 31 → q + u * 2 ^ 31 ≡ y + 2 ^ 31
     → Range (p + q) (2 ^ 31 + 2 ^ 31) (apart t u v)
@@ -56,7 +57,8 @@ signs x y z p q c t u v on on on hx hy hz e f g = inside (omega arith) (omega ar
 top-bit-moved : (x : ℕ) → x < 2 ^ 32 → (x + 2 ^ 31) % 2 ^ 32 + x / 2 ^ 31 * 2 ^ 31 ≡ x % 2 ^ 31 + 2 ^ 31
 top-bit-moved x h = omega arith
 
-carried : (x y z : ℕ) → z ≡ (x + y) % 2 ^ 32 → z / 2 ^ 31 * 2 ^ 31 + z % 2 ^ 31 + (x + y) / 2 ^ 32 * 2 ^ 32 ≡ x / 2 ^ 31 * 2 ^ 31 + x % 2 ^ 31 + (y / 2 ^ 31 * 2 ^ 31 + y % 2 ^ 31)
+carried : (x y z : ℕ) → z ≡ (x + y) % 2 ^ 32
+    → z / 2 ^ 31 * 2 ^ 31 + z % 2 ^ 31 + (x + y) / 2 ^ 32 * 2 ^ 32 ≡ x / 2 ^ 31 * 2 ^ 31 + x % 2 ^ 31 + (y / 2 ^ 31 * 2 ^ 31 + y % 2 ^ 31)
 carried x y z e = omega arith
 
 sum-range : (x y z : ℕ) → x < 2 ^ 32 → y < 2 ^ 32 → z ≡ (x + y) % 2 ^ 32
@@ -74,7 +76,8 @@ moved p q r i j true hp hr e (over h) = under (omega arith)
 moved p q r i j false hp hr e (inside h g) = inside (omega arith) (omega arith)
 
 kept : (x y z : ℕ) → x < 2 ^ 32 → y < 2 ^ 32 → z < 2 ^ 32 → x ≡ (z + y) % 2 ^ 32
-    → (z + 2 ^ 31) % 2 ^ 32 + (y + 2 ^ 31) % 2 ^ 32 + (z / 2 ^ 31 + y / 2 ^ 31) * 2 ^ 32 ≡ (x + 2 ^ 31) % 2 ^ 32 + 2 ^ 31 + (x / 2 ^ 31 + (z + y) / 2 ^ 32) * 2 ^ 32
+    → (z + 2 ^ 31) % 2 ^ 32 + (y + 2 ^ 31) % 2 ^ 32 + (z / 2 ^ 31 + y / 2 ^ 31) * 2 ^ 32
+    ≡ (x + 2 ^ 31) % 2 ^ 32 + 2 ^ 31 + (x / 2 ^ 31 + (z + y) / 2 ^ 32) * 2 ^ 32
 kept x y z hx hy hz e =
     let f = moves x hx in
     let g = moves y hy in

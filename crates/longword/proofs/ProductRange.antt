@@ -48,7 +48,8 @@ product-range : (x y m v i j : ℕ) (t : Bool) → leb (2 ^ 32) v ≡ t → v < 
 product-range x y m v i j true e hv f g h =
     beyond (ltb (m + 2 ^ 31 * 2 ^ 31 + 2 ^ 31) (x * 2 ^ 31 + 2 ^ 31 * y)) refl (leb-true (2 ^ 32) v e)
   where
-    beyond : (t : Bool) → ltb (m + 2 ^ 31 * 2 ^ 31 + 2 ^ 31) (x * 2 ^ 31 + 2 ^ 31 * y) ≡ t → 2 ^ 32 ≤ v → Range (m + 2 ^ 31 * 2 ^ 31) (x * 2 ^ 31 + 2 ^ 31 * y) true
+    beyond : (t : Bool) → ltb (m + 2 ^ 31 * 2 ^ 31 + 2 ^ 31) (x * 2 ^ 31 + 2 ^ 31 * y) ≡ t → 2 ^ 32 ≤ v
+        → Range (m + 2 ^ 31 * 2 ^ 31) (x * 2 ^ 31 + 2 ^ 31 * y) true
     beyond true d k = under (ltb-true (m + 2 ^ 31 * 2 ^ 31 + 2 ^ 31) (x * 2 ^ 31 + 2 ^ 31 * y) d)
     beyond false d k = let l = ltb-false (m + 2 ^ 31 * 2 ^ 31 + 2 ^ 31) (x * 2 ^ 31 + 2 ^ 31 * y) d in over (omega arith)
 product-range x y m v i j false e hv f g h =
@@ -58,10 +59,11 @@ wrapped : (m n v w : ℕ) → w ≡ (m + (2 ^ 62 + 2 ^ 31)) % 2 ^ 64 → (v + n)
     → m + (2 ^ 62 + 2 ^ 31) + (v + n) / 2 ^ 64 * 2 ^ 64 ≡ v + n + (m + (2 ^ 62 + 2 ^ 31)) / 2 ^ 64 * 2 ^ 64
 wrapped m n v w e f = omega arith
 
-pub product-overflow : (a b x y w v : ℕ) → x ≡ excess a → y ≡ excess b → w ≡ (x * y + (2 ^ 62 + 2 ^ 31)) % 2 ^ 64 → (v + (x + y) * 2 ^ 31) % 2 ^ 64 ≡ w → v < 2 ^ 64
-    → leb (2 ^ 32) v ≡ overflows (productOf a b)
+pub product-overflow : (a b x y w v : ℕ) → x ≡ excess a → y ≡ excess b → w ≡ (x * y + (2 ^ 62 + 2 ^ 31)) % 2 ^ 64
+    → (v + (x + y) * 2 ^ 31) % 2 ^ 64 ≡ w → v < 2 ^ 64 → leb (2 ^ 32) v ≡ overflows (productOf a b)
 product-overflow a b x y w v e f g h hv =
     let hx : x < 2 ^ 32 = omega arith in
     let hy : y < 2 ^ 32 = omega arith in
-    let r = product-range x y (x * y) v _ _ (leb (2 ^ 32) v) refl hv (product-above x y hx hy) (product-below x y hx hy) (wrapped (x * y) ((x + y) * 2 ^ 31) v w g h) in
+    let k = wrapped (x * y) ((x + y) * 2 ^ 31) v w g h in
+    let r = product-range x y (x * y) v _ _ (leb (2 ^ 32) v) refl hv (product-above x y hx hy) (product-below x y hx hy) k in
     sym (ap overflows (product-form a b ∙ cc) ∙ overflows-of _ _ _ r)

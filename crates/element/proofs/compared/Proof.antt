@@ -1,4 +1,4 @@
--- `compared` meets its contract. Assumes nothing.
+-- `compared` meets its contract: the longword compare, or F, the only other. Assumes nothing.
 use mathlib.Core.List.{[], _∷_}
 use borrow.Author.Needs.{needs}
 use Rattle.opcodes.specs.Opcodes.{workAt}
@@ -13,7 +13,9 @@ returns c = rw (c .before .match .keys1) (c .compare .ensures)
 
 returns-2 : tie.Need-returns-2
 unfolding resultOf workAt
-returns-2 c = rw (only-left 13 (4 ∷ []) _ (c .before .before .pre) (c .before .match .rest)) (c .compare2 .ensures)
+returns-2 c =
+    let s : tie.Start = search needs in
+    rw (only-left 13 (4 ∷ []) _ (s .pre) (c .before .match .rest)) (c .compare2 .ensures)
 
 pub compared-spec : {M : Type 1} → statement M
 compared-spec =

@@ -1,3 +1,4 @@
+-- `converted` meets its contract: `float::convert` does the work that the definition names. Assumes nothing.
 use Rattle.element.specs.Receives.{resultOf}
 use borrow.Author.Needs.{needs}
 use Rattle.element.proofs.converted.Statement.{statement}

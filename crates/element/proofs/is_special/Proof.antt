@@ -1,3 +1,4 @@
+-- `is_special` meets its contract: the test of the two low words. Assumes nothing.
 use borrow.Author.Needs.{needs}
 use Rattle.element.proofs.is_special.Statement.{statement}
 use Rattle.element.proofs.is_special.Tie as tie

@@ -1,3 +1,4 @@
+-- `mask_bit` meets its contract: 1 where the test holds and 0 where not. Assumes nothing.
 use Rattle.element.proofs.mask_bit.Statement.{statement}
 use Rattle.element.proofs.mask_bit.Tie as tie
 

@@ -1,3 +1,4 @@
+-- `product` meets its contract: the quotient where `divide` is set, and the product where not. Assumes nothing.
 use Rattle.element.specs.Receives.{resultOf}
 use borrow.Author.Needs.{needs}
 use Rattle.element.proofs.product.Statement.{statement}

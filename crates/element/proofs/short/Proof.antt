@@ -1,8 +1,7 @@
 -- `short` meets its contract: arm by arm. Assumes nothing.
 use mathlib.Core.List.{[], _∷_}
-use mathlib.Core.Path.{_∙_, ap}
 use borrow.Author.Needs.{needs}
-use Rattle.element.specs.Receives.{quiet, resultOf}
+use Rattle.element.specs.Receives.{resultOf}
 use Rattle.opcodes.specs.Opcodes.{workAt}
 use Rattle.opcodes.proofs.Test.{only-left}
 use Rattle.element.proofs.short.Statement.{statement}
@@ -22,15 +21,15 @@ returns-3 c = rw (c .before .match .keys3) (c .multiply .ensures)
 
 returns-4 : tie.Need-returns-4
 unfolding resultOf workAt
-returns-4 c = rw (c .before .before .match .keys4) (c .quiet .ensures ∙ ap quiet (c .before .bit-set .ensures))
+returns-4 c = let m : tie.At-match-keys4 = search needs in rw (m .match .keys4) cc
 
 returns-5 : tie.Need-returns-5
 unfolding resultOf workAt
-returns-5 c = rw (c .before .before .match .keys5) (c .quiet2 .ensures ∙ ap quiet (c .before .exclusive-or .ensures))
+returns-5 c = let m : tie.At-match-keys5 = search needs in rw (m .match .keys5) cc
 
 returns-6 : tie.Need-returns-6
 unfolding resultOf workAt
-returns-6 c = rw (c .before .before .match .keys6) (c .quiet3 .ensures ∙ ap quiet (c .before .bit-clear .ensures))
+returns-6 c = let m : tie.At-match-keys6 = search needs in rw (m .match .keys6) cc
 
 returns-7 : tie.Need-returns-7
 unfolding resultOf workAt
@@ -43,8 +42,8 @@ returns-8 c = rw (c .before .match .keys8) (c .shift-left .ensures)
 returns-9 : tie.Need-returns-9
 unfolding resultOf workAt
 returns-9 c =
-    let m = c .before .before in
-    rw (only-left 16 (9 ∷ 8 ∷ 7 ∷ 6 ∷ 5 ∷ 3 ∷ 2 ∷ 1 ∷ []) _ (m .before .pre) (m .match .rest)) (c .quiet4 .ensures ∙ ap quiet (c .before .merged .ensures))
+    let s : tie.Start = search needs in let m : tie.At-match-rest = search needs in
+    rw (only-left 16 (9 ∷ 8 ∷ 7 ∷ 6 ∷ 5 ∷ 3 ∷ 2 ∷ 1 ∷ []) _ (s .pre) (m .match .rest)) cc
 
 pub short-spec : {M : Type 1} → statement M
 short-spec =

@@ -3,7 +3,6 @@ use Rattle.execute.specs.Execute.{carriedOut}
 use Rattle.state.specs.State.{State}
 use Rattle.state.specs.Outcome.{outcome}
 use Rattle.state.specs.declared.answer.Answer.the-variants.{Done}
-use Rattle.numbers.proofs.Tests.{pick-true, pick-false}
 use mathlib.Core.Path.{refl, sym, ap, _∙_}
 use borrow.Author.Needs.{needs}
 use Rattle.execute.proofs.carry_out.Statement.{statement}
@@ -13,22 +12,22 @@ returns : tie.Need-returns
 unfolding carriedOut
 returns c =
     let t : tie.Then1 = search needs in
-    c .before .before .transfer .ensures ∙ sym (pick-true _ _ _ (sym (t .before .is-memory .ensures) ∙ t .if1 .taken))
+    let m : tie.After-transfer = search needs in
+    rw (sym (t .before .is-memory .ensures) ∙ t .if1 .taken) (m .transfer .ensures)
 
 register-requires : tie.Need-register-requires
 register-requires c κs =
-    let e = c .before in
-    let w = e .before in
     let s : tie.Start = search needs in
-    let no-memory = sym (w .is-memory .ensures) ∙ e .if1 .left in
-    (s .pre .0, rw (s .pre .1, no-memory) refl, s .pre .2)
+    let e : tie.Else1 = search needs in
+    (s .pre .0, rw (s .pre .1, sym (e .before .is-memory .ensures) ∙ e .if1 .left) refl, s .pre .2)
 
 returns-2 : tie.Need-returns-2
 unfolding carriedOut
 returns-2 c =
-    let e : tie.Else1 = search needs in
     let s : tie.Start = search needs in
-    ap (λ (x : State). outcome (Done 0) (x, s .args .window .now)) (c .register .ensures) ∙ sym (pick-false _ _ _ (sym (e .before .is-memory .ensures) ∙ e .if1 .left))
+    let e : tie.Else1 = search needs in
+    rw (sym (e .before .is-memory .ensures) ∙ e .if1 .left)
+    (ap (λ (x : State). outcome (Done 0) (x, s .args .window .now)) (c .register .ensures))
 
 pub carry-out-spec : {M : Type 1} → statement M
 carry-out-spec =

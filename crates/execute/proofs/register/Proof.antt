@@ -9,13 +9,13 @@ use Rattle.execute.proofs.register.Statement.{statement}
 use Rattle.execute.proofs.register.Tie as tie
 
 whole-requires : tie.Need-whole-requires
-whole-requires c κs = let s = c .before .before in (s .pre .0, s .pre .1, rw (c .begin .ensures) (s .pre .2))
+whole-requires c κs = let s : tie.Start = search needs in (s .pre .0, s .pre .1, rw (c .begin .ensures) (s .pre .2))
 
 returns : tie.Need-returns
 unfolding instructionDone
 returns c =
-    let b = c .before .before in
-    let a = b .before .before .args in
+    let s : tie.Start = search needs in let b : tie.After-begin = search needs in
+    let a = s .args in
     ap (state _) (c .end .ensures)
     ∙ ap finished (c .before .whole .ensures ∙ ap (λ (p : Progress). wholeOf (a .instruction) (a .scalar) (run (a .elements .now) p)) (b .begin .ensures))
 

@@ -1,4 +1,4 @@
--- `floating_c::join` meets its contract. Assumes nothing.
+-- `floating_c::join` meets its contract: the value, and the types above it. Assumes nothing.
 use native.Mathlib.Omega.{arith}
 use Rattle.floating_c.specs.Given.{joined}
 use borrow.Author.Needs.{needs}

@@ -1,4 +1,4 @@
--- `floating_c::join_bit` meets its contract. Assumes nothing.
+-- `floating_c::join_bit` meets its contract: the mask bit, and the types above it. Assumes nothing.
 use Rattle.floating_c.specs.Given.{joinedBit}
 use borrow.Author.Needs.{needs}
 use Rattle.floating_c.proofs.join_bit.Statement.{statement}

@@ -1,4 +1,4 @@
--- `floating_c::kuj_f_add` meets its contract. Assumes nothing.
+-- `floating_c::kuj_f_add` meets its contract: the floating sum, as one number. Assumes nothing.
 use borrow.Author.Needs.{needs}
 use Rattle.floating_c.proofs.kuj_f_add.Statement.{statement}
 use Rattle.floating_c.proofs.kuj_f_add.Tie as tie

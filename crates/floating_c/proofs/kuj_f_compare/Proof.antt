@@ -1,4 +1,4 @@
--- `floating_c::kuj_f_compare` meets its contract. Assumes nothing.
+-- `floating_c::kuj_f_compare` meets its contract: the floating compare, as one number. Assumes nothing.
 use borrow.Author.Needs.{needs}
 use Rattle.floating_c.proofs.kuj_f_compare.Statement.{statement}
 use Rattle.floating_c.proofs.kuj_f_compare.Tie as tie

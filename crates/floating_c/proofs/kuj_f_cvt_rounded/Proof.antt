@@ -1,4 +1,4 @@
--- `floating_c::kuj_f_cvt_rounded` meets its contract. Assumes nothing.
+-- `floating_c::kuj_f_cvt_rounded` meets its contract: the rounded longword, as one number. Assumes nothing.
 use borrow.Author.Needs.{needs}
 use Rattle.floating_c.proofs.kuj_f_cvt_rounded.Statement.{statement}
 use Rattle.floating_c.proofs.kuj_f_cvt_rounded.Tie as tie

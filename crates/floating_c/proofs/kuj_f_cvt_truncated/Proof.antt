@@ -1,4 +1,4 @@
--- `floating_c::kuj_f_cvt_truncated` meets its contract. Assumes nothing.
+-- `floating_c::kuj_f_cvt_truncated` meets its contract: the truncated longword, as one number. Assumes nothing.
 use borrow.Author.Needs.{needs}
 use Rattle.floating_c.proofs.kuj_f_cvt_truncated.Statement.{statement}
 use Rattle.floating_c.proofs.kuj_f_cvt_truncated.Tie as tie

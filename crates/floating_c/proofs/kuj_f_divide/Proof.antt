@@ -1,4 +1,4 @@
--- `floating_c::kuj_f_divide` meets its contract. Assumes nothing.
+-- `floating_c::kuj_f_divide` meets its contract: the floating quotient, as one number. Assumes nothing.
 use borrow.Author.Needs.{needs}
 use Rattle.floating_c.proofs.kuj_f_divide.Statement.{statement}
 use Rattle.floating_c.proofs.kuj_f_divide.Tie as tie

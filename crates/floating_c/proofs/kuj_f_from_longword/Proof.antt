@@ -1,4 +1,4 @@
--- `floating_c::kuj_f_from_longword` meets its contract. Assumes nothing.
+-- `floating_c::kuj_f_from_longword` meets its contract: the word of a longword, which records nothing. Assumes nothing.
 use borrow.Author.Needs.{needs}
 use Rattle.floating_c.proofs.kuj_f_from_longword.Statement.{statement}
 use Rattle.floating_c.proofs.kuj_f_from_longword.Tie as tie

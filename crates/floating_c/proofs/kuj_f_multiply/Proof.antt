@@ -1,4 +1,4 @@
--- `floating_c::kuj_f_multiply` meets its contract. Assumes nothing.
+-- `floating_c::kuj_f_multiply` meets its contract: the floating product, as one number. Assumes nothing.
 use borrow.Author.Needs.{needs}
 use Rattle.floating_c.proofs.kuj_f_multiply.Statement.{statement}
 use Rattle.floating_c.proofs.kuj_f_multiply.Tie as tie

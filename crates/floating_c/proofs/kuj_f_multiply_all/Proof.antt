@@ -20,8 +20,8 @@ loop-holds c = (omega arith, omega arith, omega arith, omega arith, search needs
 
 loop-again : tie.Need-loop-again Inv-loop μ-loop
 loop-again c =
-    let read = c .before .before in
-    let l = read .before .before .loop in (
+    let at : tie.At-loop Inv-loop μ-loop = search needs in
+    let l = at .loop in (
       omega arith,
       omega arith,
       omega arith,

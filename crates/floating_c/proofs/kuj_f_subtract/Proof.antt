@@ -1,4 +1,4 @@
--- `floating_c::kuj_f_subtract` meets its contract. Assumes nothing.
+-- `floating_c::kuj_f_subtract` meets its contract: the floating difference, as one number. Assumes nothing.
 use borrow.Author.Needs.{needs}
 use Rattle.floating_c.proofs.kuj_f_subtract.Statement.{statement}
 use Rattle.floating_c.proofs.kuj_f_subtract.Tie as tie

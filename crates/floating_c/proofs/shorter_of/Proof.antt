@@ -1,4 +1,4 @@
--- `floating_c::shorter_of` meets its contract. Assumes nothing.
+-- `floating_c::shorter_of` meets its contract: the less of two lengths. Assumes nothing.
 use borrow.Author.Tests.{lt-ltb, le-ltb}
 use mathlib.Core.Path.{sym}
 use native.Mathlib.Omega.{arith}

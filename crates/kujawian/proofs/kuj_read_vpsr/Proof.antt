@@ -1,12 +1,10 @@
--- `kuj_read_vpsr` meets its contract. Assumes nothing.
-use Rattle.control.specs.Moves.{vpsrRead}
-use Rattle.kujawian.proofs.Calls.{reads}
+-- `kuj_read_vpsr` meets its contract: what is read of the five numbers, as a number and what stands beside it. Assumes nothing.
 use borrow.Author.Needs.{needs}
 use Rattle.kujawian.proofs.kuj_read_vpsr.Statement.{statement}
 use Rattle.kujawian.proofs.kuj_read_vpsr.Tie as tie
 
 returns : tie.Need-returns
-returns c = reads _ _ (c .before .before .before .of .ensures) _ _ (c .give .ensures) vpsrRead (c .before .before .read-vpsr .ensures)
+returns c = cc
 
 pub kuj-read-vpsr-spec : {M : Type 1} → statement M
 kuj-read-vpsr-spec =

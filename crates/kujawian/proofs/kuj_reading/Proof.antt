@@ -6,14 +6,17 @@ use Rattle.kujawian.proofs.kuj_reading.Tie as tie
 
 returns : tie.Need-returns
 returns c =
-    let b = c .before .before in let k = b .before in let f = k .before .before in let r = f .before .before in
-    field-shown _ _ _ (r .before .of .ensures) _ _ _ _ (r .reading .ensures) _ _ _ _ (f .field .given .1)
+    let of : tie.After-of = search needs in let r : tie.After-reading = search needs in
+    let f : tie.After-field = search needs in let k : tie.After-kind-of = search needs in
+    let b : tie.After-bits-of = search needs in
+    field-shown _ _ _ (of .of .ensures) _ _ _ _ (r .reading .ensures) _ _ _ _ (f .field .given .1)
     (c .give .ensures) _ _ (k .kind-of .ensures) (b .bits-of .ensures)
 
 returns-2 : tie.Need-returns-2
 returns-2 c =
-    let f = c .before .before .before in let r = f .before .before in
-    field-refused _ _ _ (r .before .of .ensures) _ _ _ _ (r .reading .ensures) _ _ _ _ (f .field2 .given .1) (c .give2 .ensures)
+    let of : tie.After-of = search needs in let r : tie.After-reading = search needs in
+    let f : tie.After-field2 = search needs in
+    field-refused _ _ _ (of .of .ensures) _ _ _ _ (r .reading .ensures) _ _ _ _ (f .field2 .given .1) (c .give2 .ensures)
 
 pub kuj-reading-spec : {M : Type 1} → statement M
 kuj-reading-spec =

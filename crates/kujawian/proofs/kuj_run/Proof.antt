@@ -1,20 +1,15 @@
--- `kuj_run` meets its contract. Assumes nothing.
-use Rattle.state.specs.declared.Control.{Control}
-use Rattle.state.specs.State.{state}
-use Rattle.touch.specs.Parts.{queue}
-use Rattle.queue.specs.Run.{queueRun}
-use Rattle.kujawian.proofs.Calls.{leaves}
+-- `kuj_run` meets its contract: a queue straight through on the state that C hands over, the five numbers stored back. Assumes nothing.
+use Rattle.kujawian.specs.Face.{left}
 use borrow.Author.Needs.{needs}
 use Rattle.kujawian.proofs.kuj_run.Statement.{statement}
 use Rattle.kujawian.proofs.kuj_run.Tie as tie
 
 returns : tie.Need-returns
+unfolding left
 returns c =
-    let of = c .before .before .before .before .before in
-    let a = of .before .before .before .before .before .before .args in
-    leaves _ _ (of .of .ensures) _ _ (c .give .ensures) _ _ _ (c .before .before .store .ensures)
-    (λ (k : Control). queueRun (queue (a .opcodes .now) (a .cntrls .now) (a .scalars .now)) (state (a .elements .now) k))
-    (c .before .before .before .before .run .ensures)
+    let of : tie.After-of = search needs in let done : tie.After-run = search needs in
+    let kept : tie.After-store = search needs in
+    rw (c .give .ensures, kept .store .ensures, ← of .of .ensures, ← done .run .ensures)
 
 pub kuj-run-spec : {M : Type 1} → statement M
 kuj-run-spec =

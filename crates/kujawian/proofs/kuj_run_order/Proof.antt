@@ -1,26 +1,15 @@
--- `kuj_run_order` meets its contract. Assumes nothing.
-use mathlib.Core.List.{List}
-use Prim.Native.Nat.{ℕ}
-use Rattle.state.specs.declared.Control.{Control}
-use Rattle.state.specs.Outcome.{Outcome}
-use Rattle.state.specs.State.{State, state}
-use Rattle.touch.specs.Parts.{Queue, queue}
-use Rattle.queue.specs.Run.{walkedRun, orderedRun}
-use Rattle.kujawian.proofs.Calls.{leaves}
+-- `kuj_run_order` meets its contract: a queue by its list of steps, straight and walked, the five numbers stored back. Assumes nothing.
+use Rattle.kujawian.specs.Face.{left}
 use borrow.Author.Needs.{needs}
 use Rattle.kujawian.proofs.kuj_run_order.Statement.{statement}
 use Rattle.kujawian.proofs.kuj_run_order.Tie as tie
 
 returns : tie.Need-returns
+unfolding left
 returns c =
-    let of = c .before .before .before .before .before in
-    let a = of .before .before .before .before .before .before .before .args in
-    let q = queue (a .opcodes .now) (a .cntrls .now) (a .scalars .now) in
-    let by : (Queue → List ℕ → State → Outcome State) → Control → Outcome State = λ f k. f q (a .order .now) (state (a .elements .now) k) in
-    let meets = leaves _ _ (of .of .ensures) _ _ (c .give .ensures) _ _ _ (c .before .before .store .ensures) in (
-      meets (by orderedRun) (c .before .before .before .before .run-order .ensures .0),
-      meets (by walkedRun) (c .before .before .before .before .run-order .ensures .1),
-    )
+    let of : tie.After-of = search needs in let done : tie.After-run-order = search needs in
+    let kept : tie.After-store = search needs in
+    rw (c .give .ensures, kept .store .ensures, ← of .of .ensures) (rw (← done .run-order .ensures .0), rw (← done .run-order .ensures .1))
 
 pub kuj-run-order-spec : {M : Type 1} → statement M
 kuj-run-order-spec =

@@ -1,4 +1,4 @@
--- `compare` meets its contract. Assumes nothing.
+-- `compare` meets its contract: the relation holds by less and equal. Assumes nothing.
 use borrow.Author.Needs.{needs}
 use Rattle.longword.proofs.compare.Statement.{statement}
 use Rattle.longword.proofs.compare.Tie as tie

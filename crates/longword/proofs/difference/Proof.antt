@@ -1,4 +1,4 @@
--- `difference` meets its contract. Assumes nothing.
+-- `difference` meets its contract: the wrapped difference of the low halves is the low 32 bits of the true difference. Assumes nothing.
 use borrow.Author.Needs.{needs}
 use Rattle.longword.proofs.LowBits.{subtracted}
 use Rattle.longword.proofs.difference.Statement.{statement}

@@ -1,4 +1,4 @@
--- `difference_overflows` meets its contract. Assumes nothing.
+-- `difference_overflows` meets its contract: a difference overflows where its sum with b, which is a, does. Assumes nothing.
 use borrow.Author.Needs.{needs}
 use Rattle.longword.proofs.Overflow.{difference-overflow}
 use Rattle.longword.proofs.difference_overflows.Statement.{statement}

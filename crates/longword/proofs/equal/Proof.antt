@@ -1,4 +1,4 @@
--- `equal` meets its contract. Assumes nothing.
+-- `equal` meets its contract: two longwords are equal where their low halves are. Assumes nothing.
 use borrow.Author.Needs.{needs}
 use Rattle.longword.proofs.Order.{is-equal}
 use Rattle.longword.proofs.equal.Statement.{statement}

@@ -1,4 +1,4 @@
--- `less` meets its contract. Assumes nothing.
+-- `less` meets its contract: in excess by 2^31 the order is that of natural numbers. Assumes nothing.
 use borrow.Author.Needs.{needs}
 use Rattle.longword.proofs.Order.{is-less}
 use Rattle.longword.proofs.less.Statement.{statement}

@@ -1,4 +1,4 @@
--- `product` meets its contract. Assumes nothing.
+-- `product` meets its contract: the low 32 bits of the product of the low halves are those of the true product. Assumes nothing.
 use borrow.Author.Needs.{needs}
 use Rattle.longword.proofs.LowBits.{product-low}
 use Rattle.longword.proofs.ProductRange.{lows-fit}

@@ -1,4 +1,4 @@
--- `product_overflows` meets its contract. Assumes nothing.
+-- `product_overflows` meets its contract: a product overflows where, plus 2^31 and modulo 2^64, it is 2^32 or more. Assumes nothing.
 use borrow.Author.Needs.{needs}
 use Rattle.longword.proofs.ProductRange.{excesses-fit, product-overflow}
 use Rattle.longword.proofs.product_overflows.Statement.{statement}

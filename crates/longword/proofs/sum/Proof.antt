@@ -1,4 +1,4 @@
--- `sum` meets its contract. Assumes nothing.
+-- `sum` meets its contract: the wrapped sum of the low halves is the low 32 bits of the true sum. Assumes nothing.
 use borrow.Author.Needs.{needs}
 use Rattle.longword.proofs.LowBits.{summed}
 use Rattle.longword.proofs.sum.Statement.{statement}

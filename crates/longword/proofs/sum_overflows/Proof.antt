@@ -1,4 +1,4 @@
--- `sum_overflows` meets its contract. Assumes nothing.
+-- `sum_overflows` meets its contract: a sum overflows where its sign is that of neither term. Assumes nothing.
 use borrow.Author.Needs.{needs}
 use Rattle.longword.proofs.Overflow.{sum-overflow}
 use Rattle.longword.proofs.sum_overflows.Statement.{statement}

@@ -1,3 +1,4 @@
+-- `float::compare` meets its contract: the floating compare of the two low words, its relation in bits <2:0>. Assumes nothing.
 use Prim.Native.Nat.{_%_}
 use mathlib.Core.Path.{_≡_}
 use native.Mathlib.Omega.{arith}
@@ -9,8 +10,9 @@ use Rattle.element.proofs.float.compare.Tie as tie
 returns : tie.Need-returns
 unfolding relationHolds
 returns c =
-    let e : c .before .before .before .before .before .args .relation % 8 % 8 ≡ c .before .before .before .before .before .args .relation % 8 = omega arith in
-    rw (c .mask-bit .ensures, c .before .before .compare .ensures, c .before .before .before .word2 .ensures, c .before .before .before .before .word .ensures, e)
+    let s : tie.Start = search needs in
+    let e : s .args .relation % 8 % 8 ≡ s .args .relation % 8 = omega arith in
+    cc
 
 pub compare-spec : {M : Type 1} → statement M
 compare-spec =

@@ -1,3 +1,4 @@
+-- `float::convert` meets its contract: the conversion, put into the low half. Assumes nothing.
 use borrow.Author.Needs.{needs}
 use Rattle.element.proofs.float.convert.Statement.{statement}
 use Rattle.element.proofs.float.convert.Tie as tie

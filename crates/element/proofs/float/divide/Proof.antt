@@ -1,3 +1,4 @@
+-- `float::divide` meets its contract: the quotient of the two low words, put into the low half. Assumes nothing.
 use borrow.Author.Needs.{needs}
 use Rattle.element.proofs.float.divide.Statement.{statement}
 use Rattle.element.proofs.float.divide.Tie as tie

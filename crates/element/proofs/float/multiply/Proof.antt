@@ -1,3 +1,4 @@
+-- `float::multiply` meets its contract: the product of the two low words, put into the low half. Assumes nothing.
 use borrow.Author.Needs.{needs}
 use Rattle.element.proofs.float.multiply.Statement.{statement}
 use Rattle.element.proofs.float.multiply.Tie as tie

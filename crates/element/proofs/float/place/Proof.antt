@@ -1,3 +1,4 @@
+-- `float::place` meets its contract: the word in the low half, with the types that it recorded. Assumes nothing.
 use borrow.Author.Needs.{needs}
 use Rattle.element.proofs.float.place.Statement.{statement}
 use Rattle.element.proofs.float.place.Tie as tie

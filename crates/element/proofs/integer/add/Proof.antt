@@ -1,3 +1,4 @@
+-- `integer::add` meets its contract: the low 32 bits of the true sum, and its overflow where EXC asks. Assumes nothing.
 use Rattle.numbers.proofs.Longwords.{low32-fits}
 use borrow.Author.Needs.{needs}
 use Rattle.element.proofs.integer.add.Statement.{statement}

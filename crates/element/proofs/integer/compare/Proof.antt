@@ -1,3 +1,4 @@
+-- `integer::compare` meets its contract: the longword compare as a mask bit, with nothing recorded. Assumes nothing.
 use borrow.Author.Needs.{needs}
 use Rattle.element.proofs.integer.compare.Statement.{statement}
 use Rattle.element.proofs.integer.compare.Tie as tie

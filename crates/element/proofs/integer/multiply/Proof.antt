@@ -1,3 +1,4 @@
+-- `integer::multiply` meets its contract: the low 32 bits of the true product, and its overflow where EXC asks. Assumes nothing.
 use Rattle.numbers.proofs.Longwords.{low32-fits}
 use borrow.Author.Needs.{needs}
 use Rattle.element.proofs.integer.multiply.Statement.{statement}

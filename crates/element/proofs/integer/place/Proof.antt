@@ -1,3 +1,4 @@
+-- `integer::place` meets its contract: the value in the low half, and type bit 5 where it overflowed and EXC is set. Assumes nothing.
 use borrow.Author.Needs.{needs}
 use Rattle.element.proofs.integer.place.Statement.{statement}
 use Rattle.element.proofs.integer.place.Tie as tie

@@ -1,3 +1,4 @@
+-- `integer::shift_left` meets its contract: the longword shifted left, put into the low half, with nothing recorded. Assumes nothing.
 use borrow.Author.Needs.{needs}
 use Rattle.element.proofs.integer.shift_left.Statement.{statement}
 use Rattle.element.proofs.integer.shift_left.Tie as tie

@@ -1,3 +1,4 @@
+-- `integer::shift_right` meets its contract: the longword shifted right, put into the low half, with nothing recorded. Assumes nothing.
 use Rattle.longword.proofs.LowBits.{shifted-right-fits}
 use borrow.Author.Needs.{needs}
 use Rattle.element.proofs.integer.shift_right.Statement.{statement}

@@ -1,4 +1,4 @@
--- `give` meets its contract. Assumes nothing.
+-- `answers::give` meets its contract: the number of the answer, and what stands beside it. Assumes nothing.
 use mathlib.Core.Path.{ap₂}
 use Prim.Native.Nat.{ℕ}
 use borrow.Author.Needs.{needs}

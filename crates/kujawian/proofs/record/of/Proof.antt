@@ -1,4 +1,4 @@
--- `of` meets its contract. Assumes nothing.
+-- `record::of` meets its contract: the five numbers as the record. Assumes nothing.
 use Rattle.kujawian.specs.Face.{controlOf}
 use borrow.Author.Needs.{needs}
 use Rattle.kujawian.proofs.record.of.Statement.{statement}

@@ -1,4 +1,4 @@
--- `store` meets its contract. Assumes nothing.
+-- `record::store` meets its contract: the record as the five numbers. Assumes nothing.
 use Rattle.kujawian.specs.Face.{controlInto}
 use borrow.Author.Needs.{needs}
 use Rattle.kujawian.proofs.record.store.Statement.{statement}
