@@ -2,7 +2,6 @@
 use mathlib.Core.Path.{_≡_, refl, ap, ap₂, _∙_}
 use mathlib.Core.Bool.{Bool, true, false}
 use mathlib.Core.Logic.{_⊎_, inl, inr}
-use mathlib.Core.List.{[], _∷_}
 use Prim.Native.Nat.{ℕ}
 use Rattle.numbers.specs.Choice.{pick}
 use Rattle.numbers.specs.Halves.{low}
@@ -13,7 +12,7 @@ use Rattle.floating.specs.declared.Compared.{Compared}
 use Rattle.opcodes.specs.Opcodes.{workAt}
 use Rattle.opcodes.proofs.Test.{each-named}
 use Rattle.element.specs.Receives.{floatingOut, resultOf}
-use Rattle.element.specs.Working.{sumWork, isCompare}
+use Rattle.element.specs.Working.{sumWork, isCompare, compareWorks}
 
 -- the floating difference, or the sum, of words as they were cut
 pub is-sum : (minus exc : Bool) (a b c w v : ℕ) (x : Flagged) → w ≡ low a → v ≡ low b → x ≡ answered exc (pick minus (difference F w v) (sum F w v))
@@ -28,21 +27,14 @@ is-sum minus exc a b c w v x hw hv hx =
     at true = refl
     at false = refl
 
--- a compare ignores EXC
-pub compare-ignores : (n : ℕ) → isCompare n ≡ true → (exc : Bool) (relation a b : ℕ)
-    → resultOf (workAt n) false relation false a b 0 ≡ resultOf (workAt n) exc relation false a b 0
-unfolding resultOf workAt
-compare-ignores n e exc relation a b =
-    each-named (λ (k : ℕ). resultOf (workAt k) false relation false a b 0 ≡ resultOf (workAt k) exc relation false a b 0) (13 ∷ 4 ∷ []) (refl, (refl, tt)) n e
-
--- it records a reserved operand, or nothing
+-- a compare records a reserved operand, or nothing
 pub compare-types : (n : ℕ) → isCompare n ≡ true → (relation a b : ℕ)
     → (resultOf (workAt n) false relation false a b 0 .types ≡ 0) ⊎ (resultOf (workAt n) false relation false a b 0 .types ≡ 4)
 unfolding resultOf workAt
 compare-types n e relation a b =
     each-named
     (λ (k : ℕ). let t = resultOf (workAt k) false relation false a b 0 .types in (t ≡ 0) ⊎ (t ≡ 4))
-    (13 ∷ 4 ∷ [])
+    compareWorks
     (reserved (isReserved F (low a)) (isReserved F (low b)) _, (inl refl, tt)) n e
   where
     either : Bool → Bool → Bool → Compared

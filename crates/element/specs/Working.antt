@@ -2,19 +2,31 @@
 -- and difference, which are two functions, one for special operands; floating product and quotient; convert; and compares. No public promise cites
 -- this.
 use mathlib.Core.Bool.{Bool}
-use mathlib.Core.List.{[], _∷_}
+use mathlib.Core.List.{List, [], _∷_}
 use Prim.Native.Nat.{ℕ}
 use Rattle.numbers.specs.Choice.{pick}
 use Rattle.opcodes.specs.Working.{named}
 use Rattle.opcodes.specs.Works.{Work, AddF, SubtractF, MultiplyF, DivideF}
 
--- the number is a short work's
-abbrev pub isShort : ℕ → Bool
-isShort n = named (16 ∷ 9 ∷ 8 ∷ 7 ∷ 6 ∷ 5 ∷ 3 ∷ 2 ∷ 1 ∷ []) n
+-- the numbers of the short works: those that `element::short` has an arm for, and merge, which is what is left
+abbrev pub shortArms : List ℕ
+shortArms = 9 ∷ 8 ∷ 7 ∷ 6 ∷ 5 ∷ 3 ∷ 2 ∷ 1 ∷ []
 
--- the number is a compare's
+abbrev pub shortWorks : List ℕ
+shortWorks = 16 ∷ shortArms
+
+abbrev pub isShort : ℕ → Bool
+isShort n = named shortWorks n
+
+-- the numbers of the compares, likewise: F compare is what is left
+abbrev pub compareArms : List ℕ
+compareArms = 4 ∷ []
+
+abbrev pub compareWorks : List ℕ
+compareWorks = 13 ∷ compareArms
+
 abbrev pub isCompare : ℕ → Bool
-isCompare n = named (13 ∷ 4 ∷ []) n
+isCompare n = named compareWorks n
 
 -- the floating difference, or the sum
 abbrev pub sumWork : Bool → Work

@@ -2,7 +2,7 @@
 use mathlib.Core.Path.{_≡_, refl, sym, ap, ap₂, _∙_}
 use mathlib.Core.Bool.{Bool, true, false, not, _&&_, _||_}
 use mathlib.Core.Logic.{_⊎_, inl, inr}
-use mathlib.Core.List.{List, [], _∷_}
+use mathlib.Core.List.{List}
 use Prim.Native.Nat.{ℕ, zero, suc, _+_, _-_, _*_, _/_, _%_, _^_, _≤_, _<_}
 use native.Mathlib.Nat.{pow-suc, mod-lt, zero-add}
 use native.Mathlib.Omega.{arith}
@@ -26,7 +26,7 @@ use Rattle.opcodes.specs.Works.{Writes, element, maskBit, countedElements, byte
 use Rattle.opcodes.proofs.Test.{told, each-named}
 use Rattle.element.specs.declared.Out.{Out}
 use Rattle.element.specs.Receives.{resultOf}
-use Rattle.element.specs.Working.{isCompare}
+use Rattle.element.specs.Working.{isCompare, compareWorks}
 use Rattle.element.proofs.Groups.{compare-types}
 use Rattle.element.proofs.Opposites.{opposite-types, opposite-bit}
 use Rattle.machine.specs.declared.Effect.{Effect}
@@ -187,7 +187,7 @@ module _ (ins : Instruction) (x which : ℕ) (l : List ℕ) (p : Progress) (smal
     of-number : (n : ℕ) → isCompare n ≡ true → (t : Bool) → given n t ≡ comparedAt n (ins .vc .0 % 8) (ins .scalar) ins x l i
     unfolding resultOf workAt rowAt rowOf
     of-number n e t =
-        each-named (λ (k : ℕ). given k t ≡ comparedAt k (ins .vc .0 % 8) (ins .scalar) ins x l i) (13 ∷ 4 ∷ []) (
+        each-named (λ (k : ℕ). given k t ≡ comparedAt k (ins .vc .0 % 8) (ins .scalar) ins x l i) compareWorks (
           ap (λ (y : ℕ). resultOf (workAt 13) false (ins .vc .0 % 8) false y (at l (ins .vb .0) i) 0) (form (ins .scalar) (at l (ins .va .0) i)),
           (ap (λ (y : ℕ). resultOf (workAt 4) false (ins .vc .0 % 8) false y (at l (ins .vb .0) i) 0) (form (ins .scalar) (at l (ins .va .0) i)), tt),
         )

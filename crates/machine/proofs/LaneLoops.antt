@@ -1,7 +1,7 @@
 -- The loops over elements, turn by turn, and the loops of each work against the instruction's own. Assumes nothing.
 use mathlib.Core.Path.{_≡_, refl, sym, ap, ap₂, _∙_}
 use mathlib.Core.Bool.{Bool, true, false, not}
-use mathlib.Core.List.{[], _∷_}
+use mathlib.Core.List.{List, _∷_}
 use Prim.Native.Nat.{ℕ, _+_, _-_, _/_, _%_, _^_, _<_, _≤_}
 use native.Mathlib.Nat.{div-one}
 use borrow.Author.Tests.{ne-eqb}
@@ -21,7 +21,7 @@ use Rattle.opcodes.specs.ControlWord.{fieldBy}
 use Rattle.element.specs.declared.Out.{Out}
 use Rattle.opcodes.proofs.Test.{told, NoneOf, only-left, each-named}
 use Rattle.element.specs.Receives.{resultOf}
-use Rattle.element.specs.Working.{isShort}
+use Rattle.element.specs.Working.{isShort, shortArms, shortWorks}
 use Rattle.machine.specs.Working.{operandAt, Lanes, landed, lane, laneOf, laneIn, plainly, shortLane, converting}
 
 -- what element i receives of its operands, as they were fetched
@@ -114,7 +114,7 @@ pub record Plainly (k : ℕ) (ins : Instruction) : Type 0 where
 short-plainly : (k : ℕ) → isShort k ≡ true → (ins : Instruction) → Plainly k ins
 unfolding resultOf workAt rowAt rowOf
 short-plainly k is ins =
-    each-named (λ (n : ℕ). Plainly n ins) (16 ∷ 9 ∷ 8 ∷ 7 ∷ 6 ∷ 5 ∷ 3 ∷ 2 ∷ 1 ∷ []) (search) k is
+    each-named (λ (n : ℕ). Plainly n ins) shortWorks (search) k is
 
 -- convert, which has no first operand
 convert-lane : (ins : Instruction) (x mask i : ℕ) (s : Lanes) → ins .work ≡ 14 → laneOf (converting (ins .exc) (ins .va .0)) ins 0 i s ≡ lane ins x mask i s
@@ -170,9 +170,10 @@ module _ (ins : Instruction) (x mask which : ℕ) (s₀ s : Lanes) where
   pub convert-set : ins .work ≡ 14 → s ≡ rising (ofOnes (laneOf (converting (ins .exc) (ins .va .0)) ins 0) which) 64 s₀ → Made
   convert-set work = by-set (laneOf (converting (ins .exc) (ins .va .0)) ins 0) (λ i y. convert-lane ins x mask i y work)
 
--- of the works that write elements, each by itself, merge is the only one that is none of these
-pub merge-left : (n : ℕ) → n < 256 → isLaneWork n ≡ true → NoneOf n (14 ∷ 21 ∷ 12 ∷ 11 ∷ 10 ∷ 9 ∷ 8 ∷ 7 ∷ 6 ∷ 5 ∷ 3 ∷ 2 ∷ 1 ∷ []) → n ≡ 16
+-- the works that `lanes::some` has an arm for; of those that write elements, each by itself, merge is the only one that is none of them
+abbrev pub laneArms : List ℕ
+laneArms = 14 ∷ 21 ∷ 12 ∷ 11 ∷ 10 ∷ shortArms
+
+pub merge-left : (n : ℕ) → n < 256 → isLaneWork n ≡ true → NoneOf n laneArms → n ≡ 16
 unfolding rowAt rowOf workAt inTable
-merge-left n h e =
-    only-left 16 (14 ∷ 21 ∷ 12 ∷ 11 ∷ 10 ∷ 9 ∷ 8 ∷ 7 ∷ 6 ∷ 5 ∷ 3 ∷ 2 ∷ 1 ∷ []) n
-    (told (named (16 ∷ 14 ∷ 21 ∷ 12 ∷ 11 ∷ 10 ∷ 9 ∷ 8 ∷ 7 ∷ 6 ∷ 5 ∷ 3 ∷ 2 ∷ 1 ∷ [])) isLaneWork tt n h ∙ e)
+merge-left n h e = only-left 16 laneArms n (told (named (16 ∷ laneArms)) isLaneWork tt n h ∙ e)

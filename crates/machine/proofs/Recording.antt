@@ -1,7 +1,7 @@
 -- A short work records only with EXC: its loop gathers what the elements would record with it, and EXC is looked at once. Assumes nothing.
 use mathlib.Core.Path.{_≡_, refl, sym, ap, _∙_}
 use mathlib.Core.Bool.{Bool, true, false}
-use mathlib.Core.List.{List, [], _∷_}
+use mathlib.Core.List.{List}
 use Prim.Native.Nat.{ℕ}
 use Rattle.numbers.specs.Choice.{pick}
 use Rattle.numbers.specs.Bits.{bit}
@@ -14,7 +14,7 @@ use Rattle.opcodes.specs.declared.Instruction.{Instruction}
 use Rattle.opcodes.specs.Opcodes.{workAt}
 use Rattle.opcodes.proofs.Test.{each-named}
 use Rattle.element.specs.Receives.{quiet, resultOf}
-use Rattle.element.specs.Working.{isShort}
+use Rattle.element.specs.Working.{isShort, shortWorks}
 use Rattle.machine.specs.Working.{operandAt, Lanes, lanes, landed, laneOf, laneIn, shortLane}
 
 -- without EXC an element receives the same, and nothing is recorded
@@ -24,7 +24,7 @@ Quiet n = (m : Bool) (a b c : ℕ) → resultOf (workAt n) false 0 m a b c ≡ q
 without-exc : (work : ℕ) → isShort work ≡ true → Quiet work
 unfolding resultOf workAt
 without-exc =
-    each-named Quiet (16 ∷ 9 ∷ 8 ∷ 7 ∷ 6 ∷ 5 ∷ 3 ∷ 2 ∷ 1 ∷ []) (search)
+    each-named Quiet shortWorks (search)
 
 -- where EXC is looked at
 abbrev gatedBy : Bool → Lanes → Lanes

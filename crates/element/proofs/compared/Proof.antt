@@ -1,5 +1,5 @@
 -- `compared` meets its contract: the longword compare, or F, the only other. Assumes nothing.
-use mathlib.Core.List.{[], _∷_}
+use Rattle.element.specs.Working.{compareArms}
 use borrow.Author.Needs.{needs}
 use Rattle.opcodes.specs.Opcodes.{workAt}
 use Rattle.opcodes.proofs.Test.{only-left}
@@ -15,7 +15,7 @@ returns-2 : tie.Need-returns-2
 unfolding resultOf workAt
 returns-2 c =
     let s : tie.Start = search needs in
-    rw (only-left 13 (4 ∷ []) _ (s .pre) (c .before .match .rest)) (c .compare2 .ensures)
+    rw (only-left 13 compareArms _ (s .pre) (c .before .match .rest)) (c .compare2 .ensures)
 
 pub compared-spec : {M : Type 1} → statement M
 compared-spec =

@@ -1,5 +1,5 @@
 -- `short` meets its contract: arm by arm. Assumes nothing.
-use mathlib.Core.List.{[], _∷_}
+use Rattle.element.specs.Working.{shortArms}
 use borrow.Author.Needs.{needs}
 use Rattle.element.specs.Receives.{resultOf}
 use Rattle.opcodes.specs.Opcodes.{workAt}
@@ -43,7 +43,7 @@ returns-9 : tie.Need-returns-9
 unfolding resultOf workAt
 returns-9 c =
     let s : tie.Start = search needs in let m : tie.At-match-rest = search needs in
-    rw (only-left 16 (9 ∷ 8 ∷ 7 ∷ 6 ∷ 5 ∷ 3 ∷ 2 ∷ 1 ∷ []) _ (s .pre) (m .match .rest)) cc
+    rw (only-left 16 shortArms _ (s .pre) (m .match .rest)) cc
 
 pub short-spec : {M : Type 1} → statement M
 short-spec =

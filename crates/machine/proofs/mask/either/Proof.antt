@@ -1,7 +1,7 @@
 -- `either` meets its contract: longwords, and F by the opposite. Assumes nothing.
 use Rattle.machine.proofs.Compares.{odd-below, opposite-found, opposite-refused}
 use Rattle.opcodes.proofs.Test.{only-left}
-use mathlib.Core.List.{[], _∷_}
+use Rattle.element.specs.Working.{compareArms}
 use borrow.Author.Needs.{needs}
 use Rattle.machine.proofs.mask.either.Statement.{statement}
 use Rattle.machine.proofs.mask.either.Tie as tie
@@ -20,7 +20,7 @@ returns-2 c =
     let l = a .elements .now in
     let e = c .before .every .ensures in
     let o = c .opposed .ensures in
-    rw (only-left 13 (4 ∷ []) _ (s .pre .0) (m .match .rest), o .1) (
+    rw (only-left 13 compareArms _ (s .pre .0) (m .match .rest), o .1) (
       opposite-found (a .relation) (i .scalar) i (a .x) l (a .n) _ _ _ (e .0) (e .1) (search needs) (o .0),
       opposite-refused (a .relation) (i .scalar) i (a .x) l (a .n) _ (e .1),
     )
