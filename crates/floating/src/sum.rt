@@ -15,7 +15,8 @@ ghost use Rattle.floating.specs.Delivered.{delivered};
 ghost use Rattle.floating.specs.Operations.{answered};
 ghost use Rattle.floating.specs.Working.{magnitudes, sizeAt, joint, combined, isSpecial};
 
-// The whole part of a + b, or with o 1 of a - b, with two digits more than are kept below a's last: it has more digits than are kept or is 0, so that it alone decides the rounding. What is cut off of b leaves one unit less of a difference.
+// The whole part of a + b, or with o 1 of a - b, with two digits more than are kept below a's last: it has more digits than are kept or is 0, so that
+// it alone decides the rounding. What is cut off of b leaves one unit less of a difference.
 fn aligned(o: u64, a: u64, b: u64, d: u32) -> u64
     requires { ⌜ (o < 2) × (2 ^ (F .bits - 1) ≤ a) × (a < 2 ^ (F .bits)) × (2 ^ (F .bits - 1) ≤ b) × (b < 2 ^ (F .bits)) × (b ≤ a * 2 ^ d) ⌝ }
     ensures { λ r. ⌜ r ≡ joint o (a * 2 ^ d) b * 2 ^ (F .bits + 2) / 2 ^ d ⌝ }
