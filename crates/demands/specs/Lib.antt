@@ -1,0 +1,3 @@
+-- The three demands.
+pub mod Calls
+pub mod One
