@@ -1,1 +1,4 @@
 -- The three theorems.
+pub mod Keeping
+pub mod CallsKeep
+pub mod One

@@ -6,4 +6,5 @@ pub mod Testing
 pub mod Moving
 pub mod Relative
 pub mod Accessing
+pub mod Outcomes
 pub mod Examples

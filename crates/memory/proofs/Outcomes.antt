@@ -1,0 +1,109 @@
+-- A memory instruction that is refused leaves the state and the window as they were; one that is done has moved every operated element, each of which
+-- is aligned and lies in the window. Assumes nothing.
+use mathlib.Core.Bool.{Bool, true, false, _&&_}
+use mathlib.Core.Path.{_≡_, refl, sym, ap, _∙_}
+use mathlib.Core.List.{List}
+use Prim.Native.Nat.{ℕ, _+_, _-_, _%_, _≤_, _<_}
+use native.Mathlib.Omega.{arith}
+use lib.Dec.{leb, eqb}
+use lib.ListN.{length}
+use borrow.Author.Tests.{leb-true, eqb-true}
+use Rattle.numbers.specs.Choice.{pick}
+use Rattle.numbers.proofs.Tests.{and-left, and-right}
+use Rattle.state.specs.declared.answer.Answer.the-variants.{WindowRefused}
+use Rattle.state.specs.Answer.{isDone}
+use Rattle.state.specs.Outcome.{Outcome, afterRefusal, refusedWindow}
+use Rattle.state.specs.State.{State, state}
+use Rattle.opcodes.specs.declared.Instruction.{Instruction}
+use Rattle.opcodes.specs.Masking.{operated}
+use Rattle.memory.specs.declared.Fault.{Fault}
+use Rattle.memory.specs.declared.Fault.the-variants as fault
+use Rattle.memory.specs.declared.Test.{Test}
+use Rattle.memory.specs.declared.Test.the-variants as test
+use Rattle.memory.specs.declared.Search.{Search}
+use Rattle.memory.specs.declared.Search.the-variants as search
+use Rattle.memory.specs.Works.{isStore, isQuadword, sizeOf}
+use Rattle.memory.specs.Window.{allowed}
+use Rattle.memory.specs.Address.{addressOf, found, testOf, tested}
+use Rattle.memory.specs.Move.{movesBy, unlessBad, movedBy, movedOf}
+use Rattle.memory.proofs.Testing.{all-fine}
+
+-- an element of size bytes that is fine, at an address, in a window from origin to end
+pub record Fits (size origin end address : ℕ) : Type 0 where
+  pub aligned : address % size ≡ 0
+  pub from : origin ≤ address
+  pub to : address + size ≤ end
+
+fits : (size origin end address : ℕ) → testOf size origin end address ≡ test.Fine → Fits size origin end address
+unfolding testOf
+fits size origin end address e =
+    let f = both (eqb (address % size) 0) (leb origin address && leb (address + size) end) e in
+    record {
+      aligned = eqb-true (address % size) 0 (f .0);
+      from = leb-true origin address (and-left (leb origin address) (leb (address + size) end) (f .1));
+      to = leb-true (address + size) end (and-right (leb origin address) (leb (address + size) end) (f .1));
+    }
+  where
+    both : (a b : Bool) → found a b ≡ test.Fine → (a ≡ true) × (b ≡ true)
+    both true true e = (refl, refl)
+    both true false e = let z : _≡_ {A = ℕ} 0 1 = cc in absurd (omega arith)
+    both false b e = let z : _≡_ {A = ℕ} 0 1 = cc in absurd (omega arith)
+
+module _ (s : State) (ins : Instruction) (base stride : ℕ) (w : List ℕ) (origin : ℕ) where
+  abbrev size : ℕ
+  size = sizeOf (isQuadword (ins .work))
+
+  abbrev address : ℕ → ℕ
+  address i = addressOf ins base stride (s .elements) i
+
+  abbrev place : ℕ → ℕ
+  place i = address i - origin
+
+  abbrev tests : ℕ → Test
+  tests i = testOf size origin (origin + length w) (address i)
+
+  abbrev moves : List ℕ × List ℕ
+  moves = movesBy (isStore (ins .work)) (isQuadword (ins .work)) (ins .vc .0) (operated ins (s .control)) place (s .control .vlr) (s .elements) w
+
+  abbrev verdict : Search
+  verdict = tested (operated ins (s .control)) tests (s .control .vlr)
+
+  -- ---- refused
+  kept-unless : (a : Search) (m : List ℕ × List ℕ) → isDone (unlessBad a s w m .answer) ≡ false → unlessBad a s w m .left ≡ (s, w)
+  unfolding afterRefusal
+  kept-unless search.Fine m e = let z : _≡_ {A = ℕ} 0 1 = cc in absurd (omega arith)
+  kept-unless (search.Bad f element) m e = refl
+
+  pub moved-kept : isDone (movedOf s ins base stride w origin .answer) ≡ false → movedOf s ins base stride w origin .left ≡ (s, w)
+  unfolding movedOf afterRefusal
+  moved-kept = at (allowed (length w) origin)
+    where
+      at : (t : Bool) → isDone (pick t (unlessBad verdict s w moves) (refusedWindow WindowRefused s w) .answer) ≡ false
+          → pick t (unlessBad verdict s w moves) (refusedWindow WindowRefused s w) .left ≡ (s, w)
+      at true e = kept-unless verdict moves e
+      at false e = refl
+
+  -- ---- done
+  pub record Done : Type 0 where
+    pub window : allowed (length w) origin ≡ true
+    pub fit : (i : ℕ) → i < s .control .vlr → operated ins (s .control) i ≡ true → Fits size origin (origin + length w) (address i)
+    pub moved : movedOf s ins base stride w origin .left ≡ (state (moves .0) (s .control), moves .1)
+
+  fine-unless : (a : Search) (m : List ℕ × List ℕ) → isDone (unlessBad a s w m .answer) ≡ true → a ≡ search.Fine
+  fine-unless search.Fine m e = refl
+  fine-unless (search.Bad fault.Misaligned k) m e = let z : _≡_ {A = ℕ} 0 1 = cc in absurd (omega arith)
+  fine-unless (search.Bad fault.Outside k) m e = let z : _≡_ {A = ℕ} 0 1 = cc in absurd (omega arith)
+
+  pub moved-done : isDone (movedOf s ins base stride w origin .answer) ≡ true → Done
+  unfolding movedOf
+  moved-done d = at (allowed (length w) origin) refl d
+    where
+      at : (t : Bool) → allowed (length w) origin ≡ t → isDone (pick t (unlessBad verdict s w moves) (refusedWindow WindowRefused s w) .answer) ≡ true → Done
+      at true e d =
+          let fine : verdict ≡ search.Fine = fine-unless verdict moves d in
+          record {
+            window = e;
+            fit = λ i h c. fits size origin (origin + length w) (address i) (all-fine (operated ins (s .control)) tests (s .control .vlr) i fine h c);
+            moved = ap (λ (t : Bool). pick t (unlessBad verdict s w moves) (refusedWindow WindowRefused s w) .left) e ∙ ap (λ (a : Search). unlessBad a s w moves .left) fine;
+          }
+      at false e d = let z : _≡_ {A = ℕ} 0 1 = cc in absurd (omega arith)
