@@ -2,3 +2,4 @@
 pub mod Keeping
 pub mod CallsKeep
 pub mod One
+pub mod Three

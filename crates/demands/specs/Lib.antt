@@ -1,3 +1,4 @@
 -- The three demands.
 pub mod Calls
 pub mod One
+pub mod Three

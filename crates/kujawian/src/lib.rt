@@ -11,12 +11,14 @@ use state::Register;
 use state::answer;
 use state::answer::Answer;
 ghost use mathlib.Core.Path.{_≡_};
+ghost use lib.ListN.{length};
 ghost use Rattle.state.specs.Answer.{numbers};
 ghost use Rattle.state.specs.Outcome.{given};
 ghost use Rattle.control.specs.Moves.{vlrRead, vcrRead, vmrLowRead, vmrHighRead, vaerRead, vpsrRead, vlrWritten, vcrWritten, vmrLowWritten, vmrHighWritten, vpsrWritten};
 ghost use Rattle.execute.specs.Execute.{executedOf};
 ghost use Rattle.touch.specs.Parts.{queue as queueOf};
 ghost use Rattle.queue.specs.Run.{queueRun, walkedRun, orderedRun};
+ghost use Rattle.queue.specs.Claim.{ListClaim};
 ghost use Rattle.saved.specs.Save.{saving};
 ghost use Rattle.saved.specs.Load.{loading};
 ghost use Rattle.kujawian.specs.Face.{controlOf, stateOf, left, executed, fieldRead};
@@ -169,7 +171,7 @@ pub extern "C" fn kuj_run(
     answers::give(given, beside)
 }
 
-// Runs a queue by a list of its steps.
+// Runs a queue by a list of its steps. (That a control record is five numbers is its type's; a contract has no fact of it, so the last promise names it.)
 #[no_mangle]
 pub extern "C" fn kuj_run_order(
     elements: &mut [u64; 1024],
@@ -182,6 +184,7 @@ pub extern "C" fn kuj_run_order(
 ) -> u32
     ensures straight { λ r. ⌜ ((r, now (beside .exit)), now (elements .exit), now (control .exit)) ≡ left (now (control .entry)) (orderedRun (queueOf (now (opcodes .entry)) (now (cntrls .entry)) (now (scalars .entry))) (now (order .entry)) (stateOf (now (elements .entry)) (now (control .entry)))) ⌝ }
     ensures walked { λ r. ⌜ ((r, now (beside .exit)), now (elements .exit), now (control .exit)) ≡ left (now (control .entry)) (walkedRun (queueOf (now (opcodes .entry)) (now (cntrls .entry)) (now (scalars .entry))) (now (order .entry)) (stateOf (now (elements .entry)) (now (control .entry)))) ⌝ }
+    ensures demand { λ r. ⌜ (length (now (control .entry)) ≡ 5 → ListClaim (queueOf (now (opcodes .entry)) (now (cntrls .entry)) (now (scalars .entry))) (now (order .entry)) (stateOf (now (elements .entry)) (now (control .entry))) r (now (beside .exit)) (stateOf (now (elements .exit)) (now (control .exit)))) ⌝ }
 {
     let after = queue::run_order(
         elements,

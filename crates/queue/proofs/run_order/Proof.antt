@@ -12,7 +12,7 @@ use Rattle.state.specs.State.{state}
 use Rattle.touch.specs.Parts.{queue}
 use Rattle.queue.proofs.Preparing.{Prepared, prepared-none, prepared-more}
 use Rattle.queue.proofs.Preparing.{listed-refused, listed-few, listed-below, listed-register, check-meets, listed-stopped, list-meets, listed-done}
-use Rattle.queue.proofs.DemandThree.{both-promises}
+use Rattle.queue.proofs.DemandThree.{three-promises}
 use Rattle.queue.proofs.run_order.Statement.{statement}
 use Rattle.queue.proofs.run_order.Tie as tie
 
@@ -62,7 +62,7 @@ fine c = sym (c .before .is-done .ensures) ∙ not-false _ (c .if1 .left)
 returns : tie.Need-returns Inv-loop μ-loop
 returns c =
     let t : tie.Then1 Inv-loop μ-loop = search needs in let d : AfterAccept = search needs in let s : Start = search needs in let z = s .args in
-    both-promises _ (z .list .now) (state (z .elements .now) (z .control)) _
+    three-promises _ (z .list .now) (state (z .elements .now) (z .control)) _
     (listed-refused _ (z .elements .now) _ _ _ (d .accept .ensures) (sym (t .before .is-done .ensures) ∙ not-true _ (t .if1 .taken)) (z .list .now)
     (c .refused .result) (c .refused .ensures))
 
@@ -104,7 +104,7 @@ returns-2 : tie.Need-returns-2 Inv-loop μ-loop
 returns-2 c =
     let b : tie.After-begin Inv-loop μ-loop = search needs in let told : Told = search needs in let v : Checked = search needs in
     let out : AllBound = search needs in let at : AtLoop = search needs in let e : QueueAccepted = search needs in let z = entry e .args in
-    both-promises _ (z .list .now) (state (z .elements .now) (z .control)) _
+    three-promises _ (z .list .now) (state (z .elements .now) (z .control)) _
     (listed-done _ (z .elements .now) _ _ _ (accepted e .accept .ensures) (fine e) _ _ _ _ (at .loop .inv) (out .loop-test .left)
     (z .list .now) _ (v .check .ensures) (told .enum-told .given .1) _ (b .begin .ensures) _ _ _ (c .end .ensures) (c .before .walk .ensures))
 
@@ -112,7 +112,7 @@ returns-3 : tie.Need-returns-3 Inv-loop μ-loop
 returns-3 c =
     let p : tie.After-place Inv-loop μ-loop = search needs in let v : Checked = search needs in let out : AllBound = search needs in
     let at : AtLoop = search needs in let e : QueueAccepted = search needs in let z = entry e .args in
-    both-promises _ (z .list .now) (state (z .elements .now) (z .control)) _
+    three-promises _ (z .list .now) (state (z .elements .now) (z .control)) _
     (listed-stopped _ (z .elements .now) _ _ _ (accepted e .accept .ensures) (fine e) _ _ _ _ (at .loop .inv) (out .loop-test .left)
     (z .list .now) _ (v .check .ensures) _ (p .place .given .1) (c .refused2 .result) (c .refused2 .ensures))
 
