@@ -2,4 +2,5 @@
 pub mod Keeping
 pub mod CallsKeep
 pub mod One
+pub mod Elementwise
 pub mod Three

@@ -1,4 +1,5 @@
 -- The three demands.
 pub mod Calls
 pub mod One
+pub mod Two
 pub mod Three
