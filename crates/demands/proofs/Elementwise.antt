@@ -6,7 +6,7 @@ use mathlib.Core.Path.{_≡_, refl, sym, ap, ap₂, _∙_}
 use Prim.Native.Nat.{ℕ, zero, suc, _%_, _≤_, _<_}
 use native.Mathlib.Nat.{mod-lt}
 use native.Mathlib.Omega.{arith}
-use borrow.Author.Tests.{ltb-true, ltb-false, lt-ltb, le-ltb, eq-eqb, ne-eqb}
+use borrow.Author.Tests.{eq-eqb, ne-eqb}
 use lib.Bits.{bitOr, or-zero-r}
 use lib.Dec.{ltb, eqb}
 use lib.ListN.{length, length-set, set}
@@ -31,16 +31,8 @@ use Rattle.machine.specs.Run.{Run, run, progress, noted, joined, begun, stopped
 use Rattle.machine.specs.Step.{received, registerBit, notes, written, recorded, worked, elementStep}
 use Rattle.machine.specs.Instruction.{stepOf, stepsBelow, stepCount, wholeOf, instructionDone}
 use Rattle.machine.proofs.Gather.{noted-both}
+use Rattle.demands.proofs.Coming.{and-none, and-twice, come, come-not, come-first, come-before, come-now, come-same}
 use Rattle.demands.specs.Two.{receives, recordedBelow, recordedBy, ElementByElement}
-
--- ---- tests
-and-none : (a : Bool) → (a && false) ≡ false
-and-none true = refl
-and-none false = refl
-
-and-twice : (a b : Bool) → (a && (a && b)) ≡ (a && b)
-and-twice true b = refl
-and-twice false b = refl
 
 -- what a work makes of the mask bit and the elements that it is handed
 abbrev made : Instruction → ℕ → Bool → ℕ → ℕ → ℕ → Out
@@ -77,54 +69,22 @@ module _ (ins : Instruction) (scalar : ℕ) (s : State) (fields : Below ins) whe
   abbrev value : ℕ → ℕ
   value i = receives ins scalar s i .value
 
-  -- i is operated on, and below n
-  abbrev come : ℕ → ℕ → Bool
-  come n i = ltb i n && on i
-
   -- element i of register p is written by the steps below n
   abbrev wrote : ℕ → ℕ → ℕ → Bool
-  wrote n p i = not (writesMask ins) && eqb p (ins .vc .0) && come n i
+  wrote n p i = not (writesMask ins) && eqb p (ins .vc .0) && come on n i
 
-  come-not : (n : ℕ) → come n n ≡ false
-  come-not n = ap (λ (t : Bool). t && on n) (le-ltb n n (omega arith))
-
-  come-first : (i : ℕ) → come 0 i ≡ false
-  come-first i = ap (λ (t : Bool). t && on i) (le-ltb i 0 (omega arith))
-
-  unwritten : (n p i : ℕ) → come n i ≡ false → wrote n p i ≡ false
+  unwritten : (n p i : ℕ) → come on n i ≡ false → wrote n p i ≡ false
   unwritten n p i e =
       ap (λ (t : Bool). (not (writesMask ins) && eqb p (ins .vc .0)) && t) e ∙ and-none (not (writesMask ins) && eqb p (ins .vc .0))
 
-  unmarked : (n i : ℕ) → come n i ≡ false → (writesMask ins && come n i) ≡ false
+  unmarked : (n i : ℕ) → come on n i ≡ false → (writesMask ins && come on n i) ≡ false
   unmarked n i e = ap (λ (t : Bool). writesMask ins && t) e ∙ and-none (writesMask ins)
-
-  come-before : (n i : ℕ) → (i ≡ n → ⊥) → come (suc n) i ≡ come n i
-  come-before n i other = ap (λ (t : Bool). t && on i) (go (decEq i n))
-    where
-      go : Dec (i ≡ n) → ltb i (suc n) ≡ ltb i n
-      go (yes e) = absurd (other e)
-      go (no e) = by (ltb i n) refl
-        where
-          by : (t : Bool) → ltb i n ≡ t → ltb i (suc n) ≡ t
-          by true h = lt-ltb i (suc n) (let k = ltb-true i n h in omega arith)
-          by false h = le-ltb i (suc n) (let k = ltb-false i n h in omega (arith, e))
-
-  come-now : (n : ℕ) → come (suc n) n ≡ on n
-  come-now n = ap (λ (t : Bool). t && on n) (lt-ltb n (suc n) (omega arith))
-
-  -- where n is not operated on nothing has come
-  come-same : (n i : ℕ) → on n ≡ false → come (suc n) i ≡ come n i
-  come-same n i e = go (decEq i n)
-    where
-      go : Dec (i ≡ n) → come (suc n) i ≡ come n i
-      go (yes h) = rw h (come-now n ∙ e ∙ sym (come-not n))
-      go (no h) = come-before n i h
 
   -- after the steps below n
   record Upto (n : ℕ) (r : Run) : Type 0 where
     long : length (r .elements) ≡ 1024
     elements : (p i : ℕ) → p < 16 → i < 64 → at (r .elements) p i ≡ pick (wrote n p i) (value i) (at (s .elements) p i)
-    mask : (i : ℕ) → bit (r .progress .control .vmr) i ≡ pick (writesMask ins && come n i) (eqb (value i % 2) 1) (bit (s .control .vmr) i)
+    mask : (i : ℕ) → bit (r .progress .control .vmr) i ≡ pick (writesMask ins && come on n i) (eqb (value i % 2) 1) (bit (s .control .vmr) i)
     vlr : r .progress .control .vlr ≡ s .control .vlr
     vcr : r .progress .control .vcr ≡ s .control .vcr
     vaer : r .progress .control .vaer ≡ s .control .vaer
@@ -134,10 +94,10 @@ module _ (ins : Instruction) (scalar : ℕ) (s : State) (fields : Below ins) whe
   -- ---- one step more
   module _ (n : ℕ) (small : n < 64) (r : Run) (u : Upto n r) where
     own-element : (p : ℕ) → p < 16 → at (r .elements) p n ≡ at (s .elements) p n
-    own-element p h = u .elements p n h small ∙ pick-false (wrote n p n) _ _ (unwritten n p n (come-not n))
+    own-element p h = u .elements p n h small ∙ pick-false (wrote n p n) _ _ (unwritten n p n (come-not on n))
 
     own-bit : bit (r .progress .control .vmr) n ≡ bit (s .control .vmr) n
-    own-bit = u .mask n ∙ pick-false (writesMask ins && come n n) _ _ (unmarked n n (come-not n))
+    own-bit = u .mask n ∙ pick-false (writesMask ins && come on n n) _ _ (unmarked n n (come-not on n))
 
     same-on : operated ins (r .progress .control) n ≡ on n
     unfolding operated
@@ -153,8 +113,8 @@ module _ (ins : Instruction) (scalar : ℕ) (s : State) (fields : Below ins) whe
     idle e = record {
       long = u .long;
       elements = λ p i a b. u .elements p i a b
-          ∙ ap (λ (t : Bool). pick (not (writesMask ins) && eqb p (ins .vc .0) && t) (value i) (at (s .elements) p i)) (sym (come-same n i e));
-      mask = λ i. u .mask i ∙ ap (λ (t : Bool). pick (writesMask ins && t) (eqb (value i % 2) 1) (bit (s .control .vmr) i)) (sym (come-same n i e));
+          ∙ ap (λ (t : Bool). pick (not (writesMask ins) && eqb p (ins .vc .0) && t) (value i) (at (s .elements) p i)) (sym (come-same on n i e));
+      mask = λ i. u .mask i ∙ ap (λ (t : Bool). pick (writesMask ins && t) (eqb (value i % 2) 1) (bit (s .control .vmr) i)) (sym (come-same on n i e));
       vlr = u .vlr;
       vcr = u .vcr;
       vaer = u .vaer;
@@ -194,13 +154,13 @@ module _ (ins : Instruction) (scalar : ℕ) (s : State) (fields : Below ins) whe
 
           at-bit : (i : ℕ) → Dec (i ≡ n)
               → bit (withBit (r .progress .control .vmr) n (value n % 2)) i
-              ≡ pick (writesMask ins && come (suc n) i) (eqb (value i % 2) 1) (bit (s .control .vmr) i)
+              ≡ pick (writesMask ins && come on (suc n) i) (eqb (value i % 2) 1) (bit (s .control .vmr) i)
           at-bit i (yes h) =
               rw h (bit-replaced (r .progress .control .vmr) n (value n % 2) (mod-lt (value n) (omega arith))
-              ∙ sym (pick-true (writesMask ins && come (suc n) n) _ _ (ap₂ (λ (a b : Bool). a && b) m (come-now n ∙ e))))
+              ∙ sym (pick-true (writesMask ins && come on (suc n) n) _ _ (ap₂ (λ (a b : Bool). a && b) m (come-now on n ∙ e))))
           at-bit i (no h) =
               bit-kept (r .progress .control .vmr) n (value n % 2) (mod-lt (value n) (omega arith)) i h ∙ u .mask i
-              ∙ ap (λ (t : Bool). pick (writesMask ins && t) (eqb (value i % 2) 1) (bit (s .control .vmr) i)) (sym (come-before n i h))
+              ∙ ap (λ (t : Bool). pick (writesMask ins && t) (eqb (value i % 2) 1) (bit (s .control .vmr) i)) (sym (come-before on n i h))
 
       stores : writesMask ins ≡ false
           → Upto (suc n) (run (set (r .elements) (placeOf (ins .vc .0) n) (value n))
@@ -216,7 +176,7 @@ module _ (ins : Instruction) (scalar : ℕ) (s : State) (fields : Below ins) whe
         gathered = joins;
       }
         where
-          none : (k i : ℕ) → pick (writesMask ins && come k i) (eqb (value i % 2) 1) (bit (s .control .vmr) i) ≡ bit (s .control .vmr) i
+          none : (k i : ℕ) → pick (writesMask ins && come on k i) (eqb (value i % 2) 1) (bit (s .control .vmr) i) ≡ bit (s .control .vmr) i
           none k i = rw m refl
 
           inside : placeOf (ins .vc .0) n < length (r .elements)
@@ -234,14 +194,14 @@ module _ (ins : Instruction) (scalar : ℕ) (s : State) (fields : Below ins) whe
               rw (h, k)
               (getD-set-same (r .elements) (placeOf (ins .vc .0) n) (value n) 0 inside
               ∙ sym (pick-true (wrote (suc n) (ins .vc .0) n) _ _
-              (ap₂ (λ (x y : Bool). x && y) (ap₂ (λ (x y : Bool). not x && y) m (eq-eqb (ins .vc .0) (ins .vc .0) refl)) (come-now n ∙ e))))
+              (ap₂ (λ (x y : Bool). x && y) (ap₂ (λ (x y : Bool). not x && y) m (eq-eqb (ins .vc .0) (ins .vc .0) refl)) (come-now on n ∙ e))))
           at-element p i a b (yes h) (no k) =
-              kept p i (λ z. k (omega arith)) a b (ap (λ (t : Bool). (not (writesMask ins) && eqb p (ins .vc .0)) && t) (sym (come-before n i k)))
+              kept p i (λ z. k (omega arith)) a b (ap (λ (t : Bool). (not (writesMask ins) && eqb p (ins .vc .0)) && t) (sym (come-before on n i k)))
           at-element p i a b (no h) k =
               kept p i (λ z. h (omega arith)) a b (elsewhere n ∙ sym (elsewhere (suc n)))
             where
               elsewhere : (j : ℕ) → wrote j p i ≡ false
-              elsewhere j = ap (λ (t : Bool). not (writesMask ins) && t && come j i) (ne-eqb p (ins .vc .0) h) ∙ ap (λ (t : Bool). t && come j i) (and-none (not (writesMask ins)))
+              elsewhere j = ap (λ (t : Bool). not (writesMask ins) && t && come on j i) (ne-eqb p (ins .vc .0) h) ∙ ap (λ (t : Bool). t && come on j i) (and-none (not (writesMask ins)))
 
       works : Upto (suc n) (worked ins scalar n r)
       unfolding worked written
@@ -269,8 +229,8 @@ module _ (ins : Instruction) (scalar : ℕ) (s : State) (fields : Below ins) whe
     unfolding recordedBelow
     started = record {
       long = count;
-      elements = λ p i a b. sym (pick-false (wrote 0 p i) _ _ (unwritten 0 p i (come-first i)));
-      mask = λ i. sym (pick-false (writesMask ins && come 0 i) _ _ (unmarked 0 i (come-first i)));
+      elements = λ p i a b. sym (pick-false (wrote 0 p i) _ _ (unwritten 0 p i (come-first on i)));
+      mask = λ i. sym (pick-false (writesMask ins && come on 0 i) _ _ (unmarked 0 i (come-first on i)));
       vlr = refl;
       vcr = refl;
       vaer = refl;
@@ -291,7 +251,7 @@ module _ (ins : Instruction) (scalar : ℕ) (s : State) (fields : Below ins) whe
       all : Upto (s .control .vlr) last
       all = upto (s .control .vlr) few
 
-      every : (i : ℕ) → come (s .control .vlr) i ≡ on i
+      every : (i : ℕ) → come on (s .control .vlr) i ≡ on i
       unfolding operated
       every i = and-twice (ltb i (s .control .vlr)) _
 

@@ -2,6 +2,9 @@
 pub mod Keeping
 pub mod CallsKeep
 pub mod One
+pub mod Coming
 pub mod Elementwise
 pub mod Counting
+pub mod Moved
+pub mod Two
 pub mod Three
