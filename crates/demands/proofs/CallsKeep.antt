@@ -1,12 +1,10 @@
 -- What each call keeps where it is refused. Assumes nothing.
-use mathlib.Core.Bool.{Bool, true, false}
+use mathlib.Core.Bool.{Bool, false}
 use mathlib.Core.List.{List}
-use mathlib.Core.Path.{_≡_}
 use Prim.Native.Nat.{ℕ}
 use Rattle.state.specs.declared.Control.{Control}
 use Rattle.state.specs.declared.answer.Answer.the-variants.{Done, Disabled, ValueRefused, OutOfRange, BadFile}
 use Rattle.state.specs.Answer.{isDone}
-use Rattle.state.specs.Outcome.{Outcome}
 use Rattle.state.specs.State.{State, inRange, enabled}
 use Rattle.control.specs.Moves.{writeWhen}
 use Rattle.opcodes.specs.declared.Decoded.{Decoded}

@@ -17,7 +17,7 @@ use Rattle.opcodes.specs.declared.Instruction.{Instruction}
 use Rattle.opcodes.specs.Opcodes.{inOneStep}
 use Rattle.opcodes.specs.Working.{Below}
 use Rattle.machine.specs.Run.{Run, begun, finished}
-use Rattle.machine.specs.Iota.{matching, put, turned, walked, iotaStep}
+use Rattle.machine.specs.Iota.{matching, turned, walked, iotaStep}
 use Rattle.machine.specs.Instruction.{stepOf, stepsBelow, wholeOf, instructionDone}
 use Rattle.machine.proofs.IotaLaws.{matching-le}
 use Rattle.machine.proofs.IotaTouches.{Outside, past, walked-length, walked-outside}
@@ -99,7 +99,8 @@ module _ (ins : Instruction) (scalar : ℕ) (s : State) (fields : Below ins) (co
     counted = λ e h.
         let t = turns (s .control .vmr) (ins .mtf) (low scalar) (ins .vc .0) (s .elements) (fields .vc) count (s .control .vlr) few e (rw (end .vcr) at h) in
         (t .i, t .before, t .match, t .counted, t .gets);
-    others = λ r e a b past. walked-outside (s .control .vmr) (ins .mtf) (low scalar) (ins .vc .0) (s .control .vlr) (placeOf r e) (outside r e a b (rw (end .vcr) at past)) (s .elements);
+    others = λ r e a b past. walked-outside (s .control .vmr) (ins .mtf) (low scalar) (ins .vc .0) (s .control .vlr) (placeOf r e)
+        (outside r e a b (rw (end .vcr) at past)) (s .elements);
     vlr = end .vlr;
     vmr = end .vmr;
     vaer = end .vaer ∙ or-zero-r (s .control .vaer);

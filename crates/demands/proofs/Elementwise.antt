@@ -1,7 +1,6 @@
 -- What a register instruction that works element by element leaves, from its entry state: by induction over its steps, each of which reads and writes its
 -- own element alone. Assumes nothing.
 use mathlib.Core.Bool.{Bool, Bool·beq, true, false, not, _&&_, _||_}
-use mathlib.Core.List.{List}
 use mathlib.Core.Path.{_≡_, refl, sym, ap, ap₂, _∙_}
 use Prim.Native.Nat.{ℕ, zero, suc, _%_, _≤_, _<_}
 use native.Mathlib.Nat.{mod-lt}
@@ -29,7 +28,7 @@ use Rattle.machine.specs.declared.Gathered.{Gathered}
 use Rattle.machine.specs.declared.Progress.{Progress}
 use Rattle.machine.specs.Run.{Run, run, progress, noted, joined, begun, stopped, ended, finished}
 use Rattle.machine.specs.Step.{received, registerBit, notes, written, recorded, worked, elementStep}
-use Rattle.machine.specs.Instruction.{stepOf, stepsBelow, stepCount, wholeOf, instructionDone}
+use Rattle.machine.specs.Instruction.{stepOf, stepsBelow, wholeOf, instructionDone}
 use Rattle.machine.proofs.Gather.{noted-both}
 use Rattle.demands.proofs.Coming.{and-none, and-twice, come, come-not, come-first, come-before, come-now, come-same}
 use Rattle.demands.specs.Two.{receives, recordedBelow, recordedBy, ElementByElement}
@@ -105,7 +104,8 @@ module _ (ins : Instruction) (scalar : ℕ) (s : State) (fields : Below ins) whe
 
     same-received : received ins scalar n r ≡ receives ins scalar s n
     unfolding received
-    same-received = made-same ins scalar own-bit (own-element (ins .va .0) (fields .va)) (own-element (ins .vb .0) (fields .vb)) (own-element (ins .vc .0) (fields .vc))
+    same-received =
+        made-same ins scalar own-bit (own-element (ins .va .0) (fields .va)) (own-element (ins .vb .0) (fields .vb)) (own-element (ins .vc .0) (fields .vc))
 
     -- it is not operated on
     idle : on n ≡ false → Upto (suc n) r
@@ -120,7 +120,8 @@ module _ (ins : Instruction) (scalar : ℕ) (s : State) (fields : Below ins) whe
       vaer = u .vaer;
       vpsr = u .vpsr;
       gathered = u .gathered
-          ∙ sym (ap (λ (x : ℕ). noted (bitOr (recordedBelow n ins scalar s) x)) (pick-false (on n) _ 0 e) ∙ ap noted (or-zero-r (recordedBelow n ins scalar s)));
+          ∙ sym (ap (λ (x : ℕ). noted (bitOr (recordedBelow n ins scalar s) x)) (pick-false (on n) _ 0 e)
+          ∙ ap noted (or-zero-r (recordedBelow n ins scalar s)));
     }
 
     -- it is
@@ -201,7 +202,8 @@ module _ (ins : Instruction) (scalar : ℕ) (s : State) (fields : Below ins) whe
               kept p i (λ z. h (omega arith)) a b (elsewhere n ∙ sym (elsewhere (suc n)))
             where
               elsewhere : (j : ℕ) → wrote j p i ≡ false
-              elsewhere j = ap (λ (t : Bool). not (writesMask ins) && t && come on j i) (ne-eqb p (ins .vc .0) h) ∙ ap (λ (t : Bool). t && come on j i) (and-none (not (writesMask ins)))
+              elsewhere j = ap (λ (t : Bool). not (writesMask ins) && t && come on j i) (ne-eqb p (ins .vc .0) h)
+                  ∙ ap (λ (t : Bool). t && come on j i) (and-none (not (writesMask ins)))
 
       works : Upto (suc n) (worked ins scalar n r)
       unfolding worked written
@@ -264,7 +266,8 @@ module _ (ins : Instruction) (scalar : ℕ) (s : State) (fields : Below ins) whe
         vlr = end .vlr ∙ all .vlr;
         vcr = end .vcr ∙ all .vcr;
         vaer = end .vaer ∙ ap₂ bitOr (all .vaer) (ap (λ (g : Gathered). g .vaer) (all .gathered));
-        vpsr = end .vpsr ∙ ap₂ (λ (g : Gathered) (v : ℕ). pick (g .recorded) (withBit (withBit v 0 0) 7 1) v) (all .gathered) (all .vpsr) ∙ halts (eqb (recordedBy ins scalar s) 0);
+        vpsr = end .vpsr ∙ ap₂ (λ (g : Gathered) (v : ℕ). pick (g .recorded) (withBit (withBit v 0 0) 7 1) v) (all .gathered) (all .vpsr)
+            ∙ halts (eqb (recordedBy ins scalar s) 0);
       }
         where
           end : Ends (last .progress)

@@ -1,9 +1,9 @@
 -- What a load or a store that was done leaves: by induction over its elements, in rising order. Assumes nothing.
 use mathlib.Core.Bool.{Bool, true, false, _&&_}
-use mathlib.Core.List.{List, [], _∷_, _++_}
-use mathlib.Core.Logic.{_⊎_, inl, inr, ⊎-elim}
+use mathlib.Core.List.{List, _++_}
+use mathlib.Core.Logic.{_⊎_, inl, inr}
 use mathlib.Core.Path.{_≡_, refl, sym, ap, ap₂, _∙_}
-use Prim.Native.Nat.{ℕ, zero, suc, _+_, _-_, _*_, _/_, _%_, _^_, _≤_, _<_}
+use Prim.Native.Nat.{ℕ, zero, suc, _+_, _-_, _/_, _%_, _^_, _≤_, _<_}
 use native.Mathlib.Nat.{div-div-eq-div-mul, mul-comm, pow-suc, div-one}
 use native.Mathlib.Omega.{arith}
 use borrow.Author.Tests.{eq-eqb, ne-eqb}
@@ -17,7 +17,7 @@ use Rattle.numbers.specs.Rising.{rising}
 use Rattle.numbers.proofs.BitLaws.{decEq}
 use Rattle.numbers.proofs.LittleEndian.{bytes-length}
 use Rattle.numbers.proofs.Over.{length-over}
-use Rattle.numbers.proofs.Tests.{pick-true, pick-false, below-or-not}
+use Rattle.numbers.proofs.Tests.{pick-true, pick-false}
 use Rattle.state.specs.State.{placeOf}
 use Rattle.state.specs.Elements.{at}
 use Rattle.memory.specs.Works.{sizeOf}
@@ -43,7 +43,9 @@ module _ (quadword : Bool) (vc : ℕ) (on : ℕ → Bool) (place : ℕ → ℕ) 
     }
 
     own : at m vc n ≡ at l vc n
-    own = u .elements vc n register small ∙ pick-false (eqb vc vc && come on n n) _ _ (ap (λ (t : Bool). eqb vc vc && t) (come-not on n) ∙ and-none (eqb vc vc))
+    own =
+        u .elements vc n register small
+        ∙ pick-false (eqb vc vc && come on n n) _ _ (ap (λ (t : Bool). eqb vc vc && t) (come-not on n) ∙ and-none (eqb vc vc))
 
     loads : on n ≡ true → Upto (suc n) (set m (placeOf vc n) (gets vc n))
     loads e = record {
@@ -149,17 +151,18 @@ module _ (quadword : Bool) (vc : ℕ) (on : ℕ → Bool) (place : ℕ → ℕ) 
 
   -- what the turn of element n does not have it keeps
   module _ (n : ℕ) (f : Fit (suc n)) (k : ℕ) where
-    unfolding-step : (t : Bool) → on n ≡ t → (t ≡ true → Misses n k) → getD (pick t (putAt size (stored n) (place n) (at l vc n)) (stored n)) k 0 ≡ getD (stored n) k 0
-    unfolding-step true e misses =
+    at-turn : (t : Bool) → on n ≡ t → (t ≡ true → Misses n k)
+        → getD (pick t (putAt size (stored n) (place n) (at l vc n)) (stored n)) k 0 ≡ getD (stored n) k 0
+    at-turn true e misses =
         over-outside (stored n) (place n) (bytesOf size (at l vc n))
         (let g = f n (omega arith) e in let b = bytes-length size (at l vc n) in let long = stored-length n (fewer n f) in omega arith)
         k
         (rw (bytes-length size (at l vc n)) (misses refl))
-    unfolding-step false e misses = refl
+    at-turn false e misses = refl
 
     keeps : (on n ≡ true → Misses n k) → getD (stored (suc n)) k 0 ≡ getD (stored n) k 0
     unfolding rising storeStep
-    keeps misses = unfolding-step (on n) refl misses
+    keeps misses = at-turn (on n) refl misses
 
   pub stored-others : (n : ℕ) → Fit n → (k : ℕ) → ((i : ℕ) → i < n → on i ≡ true → Misses i k) → getD (stored n) k 0 ≡ getD w k 0
   unfolding rising
@@ -181,6 +184,7 @@ module _ (quadword : Bool) (vc : ℕ) (on : ℕ → Bool) (place : ℕ → ℕ) 
   stored-bytes (suc n) f i k below e h later =
       by (decEq i n) (λ b. stored-bytes n (fewer n f) i k b e h (λ j a b. later j a (omega arith)))
     where
-      by : Dec (i ≡ n) → (i < n → getD (stored n) (place i + k) 0 ≡ at l vc i / 256 ^ k % 256) → getD (stored (suc n)) (place i + k) 0 ≡ at l vc i / 256 ^ k % 256
+      by : Dec (i ≡ n) → (i < n → getD (stored n) (place i + k) 0 ≡ at l vc i / 256 ^ k % 256)
+          → getD (stored (suc n)) (place i + k) 0 ≡ at l vc i / 256 ^ k % 256
       by (yes z) on = rw z (written n f (rw z at e) k h)
       by (no z) on = keeps n f (place i + k) (λ c. later n (omega arith) (omega arith) c) ∙ on (omega arith)

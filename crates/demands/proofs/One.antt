@@ -12,11 +12,12 @@ use Rattle.state.specs.declared.answer.Answer.{Answer}
 use Rattle.state.specs.declared.answer.Answer.the-variants.{Done, ReservedOpcode, ReservedControlWord, Disabled, WindowRefused, Misaligned}
 use Rattle.state.specs.declared.answer.Answer.the-variants.{OutsideWindow, MemoryOpcode, QueueRefused, OrderRefused, BadFile, ValueRefused}
 use Rattle.state.specs.declared.answer.Answer.the-variants.{OutOfRange, NoSuchField}
-use Rattle.state.specs.Answer.{numberOf, numbers, isDone}
+use Rattle.state.specs.Answer.{numberOf, numbers}
 use Rattle.state.specs.Outcome.{Outcome, given}
 use Rattle.state.specs.State.{State, state, inRange}
 use Rattle.state.specs.Elements.{at}
-use Rattle.control.specs.Moves.{vlrRead, vcrRead, vmrLowRead, vmrHighRead, vaerRead, vpsrRead, vlrWritten, vcrWritten, vmrLowWritten, vmrHighWritten, vpsrWritten}
+use Rattle.control.specs.Moves.{vlrRead, vcrRead, vmrLowRead, vmrHighRead, vaerRead, vpsrRead}
+use Rattle.control.specs.Moves.{vlrWritten, vcrWritten, vmrLowWritten, vmrHighWritten, vpsrWritten}
 use Rattle.execute.specs.Execute.{executedOf}
 use Rattle.queue.specs.Run.{queueRun, orderedRun}
 use Rattle.saved.specs.Save.{saving}

@@ -1,8 +1,7 @@
 -- DEMAND 3, the theorem `holds`: of any state, any queue that is accepted there and any list. Beside it the laws of an empty queue and of an empty list.
 -- Assumes nothing.
-use mathlib.Core.Bool.{true, false}
-use mathlib.Core.List.{[]}
-use mathlib.Core.Path.{_≡_, refl, sym, ap, _∙_}
+use mathlib.Core.Bool.{true}
+use mathlib.Core.Path.{_≡_, sym, ap, _∙_}
 use Prim.Native.Nat.{ℕ}
 use lib.Bits.{or-zero-r}
 use Rattle.numbers.specs.Choice.{pick}
@@ -40,8 +39,11 @@ module _ (s : State) (ranged : inRange (s .control) ≡ true) (on : enabled (s .
   unfolding ranThrough straight ended
   leaves = ap (λ (v : ℕ). state (s .elements) (withVaer (s .control) v)) (or-zero-r (s .control .vaer))
 
-  empty : pick (isDone (acceptance (s .control) none)) (outcome (Done 0) (ranThrough none s)) (refusedState (acceptance (s .control) none) s) ≡ outcome (Done 0) s
-  empty = pick-true (isDone (acceptance (s .control) none)) _ (refusedState (acceptance (s .control) none) s) (ap isDone accepts) ∙ ap (outcome (Done 0)) leaves
+  empty : pick (isDone (acceptance (s .control) none)) (outcome (Done 0) (ranThrough none s)) (refusedState (acceptance (s .control) none) s)
+      ≡ outcome (Done 0) s
+  empty =
+      pick-true (isDone (acceptance (s .control) none)) _ (refusedState (acceptance (s .control) none) s) (ap isDone accepts)
+      ∙ ap (outcome (Done 0)) leaves
 
 pub empty-queue : (s : State) → EmptyQueue s
 unfolding queueRun

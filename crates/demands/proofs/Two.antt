@@ -2,14 +2,14 @@
 -- Assumes nothing.
 use mathlib.Core.Bool.{Bool, true, false, _&&_}
 use mathlib.Core.List.{List}
-use mathlib.Core.Path.{_≡_, refl, sym, ap, subst, _∙_}
-use Prim.Native.Nat.{ℕ, _+_, _-_, _≤_, _<_}
+use mathlib.Core.Path.{_≡_, refl, sym, ap, _∙_}
+use Prim.Native.Nat.{ℕ, _+_, _≤_, _<_}
 use native.Mathlib.Omega.{arith}
 use borrow.Author.Tests.{ltb-true}
 use lib.Dec.{ltb, eqb}
 use lib.ListN.{length, getD}
 use Rattle.numbers.specs.Choice.{pick}
-use Rattle.numbers.proofs.Tests.{true-not-false, and-left, pick-true, pick-false}
+use Rattle.numbers.proofs.Tests.{true-not-false, and-left}
 use Rattle.state.specs.declared.Control.{Control}
 use Rattle.state.specs.declared.answer.Answer.the-variants.{Done, OutOfRange}
 use Rattle.state.specs.Answer.{isDone}
@@ -22,20 +22,19 @@ use Rattle.opcodes.specs.declared.Decoded.{Decoded}
 use Rattle.opcodes.specs.declared.Decoded.the-variants.{Accepted, Refused}
 use Rattle.opcodes.specs.declared.Opcode.{Opcode}
 use Rattle.opcodes.specs.declared.Opcode.the-variants as entry
-use Rattle.opcodes.specs.Opcodes.{opcodeOf, isMemory, inOneStep}
+use Rattle.opcodes.specs.Opcodes.{opcodeOf, isMemory}
 use Rattle.opcodes.specs.Decoding.{byOpcode, decodedOf}
 use Rattle.opcodes.specs.Masking.{operated}
 use Rattle.opcodes.specs.Working.{Below}
-use Rattle.opcodes.proofs.Passed.{Passed, passed, refusal}
+use Rattle.opcodes.proofs.Passed.{passed, refusal}
 use Rattle.machine.specs.Instruction.{instructionDone}
-use Rattle.memory.specs.Works.{isStore, isQuadword, sizeOf}
-use Rattle.memory.specs.Address.{addressOf}
+use Rattle.memory.specs.Works.{isStore, isQuadword}
 use Rattle.memory.specs.Window.{numberAt}
 use Rattle.memory.specs.Move.{received, movesBy, movedOf}
 use Rattle.memory.proofs.Outcomes as memory
 use Rattle.execute.specs.Execute.{carriedOut, asDecoded, executedOf}
 use Rattle.saved.proofs.RoundTrip.{loads-again, saves-again}
-use Rattle.demands.specs.Two.{ElementByElement, Counted, placeIn, bytesEach, Inside, Loaded, Stored, DemandTwo, LoadsAgain, SavesAgain}
+use Rattle.demands.specs.Two.{placeIn, bytesEach, Inside, Loaded, Stored, DemandTwo, LoadsAgain, SavesAgain}
 use Rattle.demands.proofs.Coming.{and-twice, come}
 use Rattle.demands.proofs.Elementwise as elementwise
 use Rattle.demands.proofs.Counting as counting
@@ -62,20 +61,18 @@ module _ (ins : Instruction) (base stride : ℕ) (s : State) (origin : ℕ) (w :
       record { aligned = f .aligned; from = f .from; to = let a = f .from in let b = f .to in omega arith }
 
   -- it moved elements, or bytes
-  moved : (store : Bool) → isStore (ins .work) ≡ store
-      → movedOf s ins base stride w origin .left
-      ≡ (
-        state (movesBy store (isQuadword (ins .work)) (ins .vc .0) (operated ins (s .control)) (placeIn ins base stride s origin) (s .control .vlr) (s .elements) w .0)
-            (s .control),
-        movesBy store (isQuadword (ins .work)) (ins .vc .0) (operated ins (s .control)) (placeIn ins base stride s origin) (s .control .vlr) (s .elements) w .1,
-      )
+  abbrev moves : Bool → List ℕ × List ℕ
+  moves store =
+      movesBy store (isQuadword (ins .work)) (ins .vc .0) (operated ins (s .control)) (placeIn ins base stride s origin) (s .control .vlr) (s .elements) w
+
+  moved : (store : Bool) → isStore (ins .work) ≡ store → movedOf s ins base stride w origin .left ≡ (state (moves store .0) (s .control), moves store .1)
   moved store e = rw (← e) (told .moved)
 
   loads : isStore (ins .work) ≡ false → (o : State × List ℕ) → movedOf s ins base stride w origin .left ≡ o → Loaded ins base stride s origin w (o .1) (o .0)
   loads e o is =
       let m = sym is ∙ moved false e in
       let gets : ℕ → ℕ → ℕ =
-      λ r i. received (isQuadword (ins .work)) (at (s .elements) r i) (numberAt (bytesEach ins base stride s origin) w (placeIn ins base stride s origin i)) in
+      λ r i. received (isQuadword (ins .work)) (at (s .elements) r i) (numberAt (bytesEach ins) w (placeIn ins base stride s origin i)) in
       let u = loaded (isQuadword (ins .work)) (ins .vc .0) (operated ins (s .control)) (placeIn ins base stride s origin) w (s .elements) register count
       (s .control .vlr) few in
       record {
@@ -86,7 +83,7 @@ module _ (ins : Instruction) (base stride : ℕ) (s : State) (origin : ℕ) (w :
         window = ap (λ (x : State × List ℕ). x .1) m;
       }
 
-  fit : (i : ℕ) → i < s .control .vlr → operated ins (s .control) i ≡ true → placeIn ins base stride s origin i + bytesEach ins base stride s origin ≤ length w
+  fit : (i : ℕ) → i < s .control .vlr → operated ins (s .control) i ≡ true → placeIn ins base stride s origin i + bytesEach ins ≤ length w
   fit i h e = inside i e .to
 
   stores : isStore (ins .work) ≡ true → (o : State × List ℕ) → movedOf s ins base stride w origin .left ≡ o → Stored ins base stride s origin w (o .1) (o .0)

@@ -6,7 +6,8 @@ use Rattle.state.specs.declared.Control.{Control}
 use Rattle.state.specs.declared.answer.Answer.{Answer}
 use Rattle.state.specs.Answer.{numbers}
 use Rattle.state.specs.Outcome.{Outcome, given}
-use Rattle.control.specs.Moves.{vlrRead, vcrRead, vmrLowRead, vmrHighRead, vaerRead, vpsrRead, vlrWritten, vcrWritten, vmrLowWritten, vmrHighWritten, vpsrWritten}
+use Rattle.control.specs.Moves.{vlrRead, vcrRead, vmrLowRead, vmrHighRead, vaerRead, vpsrRead}
+use Rattle.control.specs.Moves.{vlrWritten, vcrWritten, vmrLowWritten, vmrHighWritten, vpsrWritten}
 use Rattle.execute.specs.Execute.{executedOf}
 use Rattle.touch.specs.Parts.{Queue}
 use Rattle.queue.specs.Run.{queueRun, orderedRun}

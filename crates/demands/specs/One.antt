@@ -2,7 +2,7 @@
 -- element, control number, byte of the window or of the file, and no output but what stands beside the number, has changed. That every call
 -- ends and does nothing undefined is what the prover asks of every function.
 use mathlib.Core.Path.{_≡_}
-use Prim.Native.Nat.{ℕ, _≤_}
+use Prim.Native.Nat.{_≤_}
 use Rattle.demands.specs.Calls.{Call, Lent, called}
 
 pub record DemandOne (call : Call) (l : Lent) : Type 0 where

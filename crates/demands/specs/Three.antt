@@ -4,7 +4,7 @@ use mathlib.Core.List.{List, []}
 use mathlib.Core.Path.{_≡_}
 use Prim.Native.Nat.{ℕ}
 use Rattle.state.specs.declared.answer.Answer.the-variants.{Done, Disabled}
-use Rattle.state.specs.Answer.{numberOf, besideOf, isDone}
+use Rattle.state.specs.Answer.{numberOf, besideOf}
 use Rattle.state.specs.Outcome.{outcome}
 use Rattle.state.specs.State.{State, inRange, enabled}
 use Rattle.machine.specs.Run.{begun}

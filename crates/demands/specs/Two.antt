@@ -1,6 +1,6 @@
 -- DEMAND 2: what an accepted instruction leaves, said from its entry state, and the two round trips of saving and loading. Document 01, "What an element
 -- receives" and "Memory": masked elements, those at or past VLR and everything else are as they were.
-use mathlib.Core.Bool.{Bool, true, false, not, _&&_}
+use mathlib.Core.Bool.{true, false, not, _&&_}
 use mathlib.Core.List.{List, _++_}
 use mathlib.Core.Logic.{_⊎_}
 use mathlib.Core.Path.{_≡_}
@@ -13,7 +13,6 @@ use Rattle.numbers.specs.Bytes.{Bytes}
 use Rattle.numbers.specs.Choice.{pick}
 use Rattle.numbers.specs.Halves.{low, withLow}
 use Rattle.state.specs.declared.answer.Answer.the-variants.{Done}
-use Rattle.state.specs.Answer.{isDone}
 use Rattle.state.specs.Outcome.{outcome}
 use Rattle.state.specs.State.{State}
 use Rattle.state.specs.Elements.{at, matches}
@@ -30,7 +29,6 @@ use Rattle.memory.specs.Works.{isStore, isQuadword, sizeOf}
 use Rattle.memory.specs.Window.{numberAt}
 use Rattle.memory.specs.Address.{addressOf}
 use Rattle.memory.specs.Move.{received as loaded}
-use Rattle.execute.specs.Execute.{executedOf}
 use Rattle.saved.specs.File.{Held}
 use Rattle.saved.specs.Save.{saving}
 use Rattle.saved.specs.Load.{loading}
@@ -58,7 +56,8 @@ pub record ElementByElement (ins : Instruction) (scalar : ℕ) (s after : State)
       ≡ pick (not (writesMask ins) && eqb r (ins .vc .0) && operated ins (s .control) i) (receives ins scalar s i .value) (at (s .elements) r i)
   -- and the operated mask bits of a compare; every other mask bit is as it was
   pub mask : (i : ℕ)
-      → bit (after .control .vmr) i ≡ pick (writesMask ins && operated ins (s .control) i) (eqb (receives ins scalar s i .value % 2) 1) (bit (s .control .vmr) i)
+      → bit (after .control .vmr) i
+      ≡ pick (writesMask ins && operated ins (s .control) i) (eqb (receives ins scalar s i .value % 2) 1) (bit (s .control .vmr) i)
   pub vlr : after .control .vlr ≡ s .control .vlr
   pub vcr : after .control .vcr ≡ s .control .vcr
   -- VAER is the or of what was there and of what the elements recorded
@@ -82,23 +81,24 @@ pub record Counted (ins : Instruction) (scalar : ℕ) (s after : State) : Type 0
   pub vpsr : after .control .vpsr ≡ s .control .vpsr
 
 -- ---- memory: a window at an origin
+-- how many bytes an element has there
+abbrev pub bytesEach : Instruction → ℕ
+bytesEach ins = sizeOf (isQuadword (ins .work))
+
 module _ (ins : Instruction) (base stride : ℕ) (s : State) (origin : ℕ) where
-  -- the place of element i in the window, and its bytes
+  -- the place of element i in the window
   abbrev pub placeIn : ℕ → ℕ
   placeIn i = addressOf ins base stride (s .elements) i - origin
 
-  abbrev pub bytesEach : ℕ
-  bytesEach = sizeOf (isQuadword (ins .work))
-
   -- byte k of the window is none of element i's
   abbrev pub Misses : ℕ → ℕ → Type 0
-  Misses i k = (k < placeIn i) ⊎ (placeIn i + bytesEach ≤ k)
+  Misses i k = (k < placeIn i) ⊎ (placeIn i + bytesEach ins ≤ k)
 
   -- each operated element is aligned, and lies in the window of so many bytes
   pub record Inside (size i : ℕ) : Type 0 where
-    pub aligned : addressOf ins base stride (s .elements) i % bytesEach ≡ 0
+    pub aligned : addressOf ins base stride (s .elements) i % bytesEach ins ≡ 0
     pub from : origin ≤ addressOf ins base stride (s .elements) i
-    pub to : placeIn i + bytesEach ≤ size
+    pub to : placeIn i + bytesEach ins ≤ size
 
   pub record Loaded (w w′ : List ℕ) (after : State) : Type 0 where
     pub inside : (i : ℕ) → operated ins (s .control) i ≡ true → Inside (length w) i
@@ -106,7 +106,7 @@ module _ (ins : Instruction) (base stride : ℕ) (s : State) (origin : ℕ) wher
     pub elements : (r i : ℕ) → r < 16 → i < 64
         → at (after .elements) r i
         ≡ pick (eqb r (ins .vc .0) && operated ins (s .control) i)
-        (loaded (isQuadword (ins .work)) (at (s .elements) r i) (numberAt bytesEach w (placeIn i)))
+        (loaded (isQuadword (ins .work)) (at (s .elements) r i) (numberAt (bytesEach ins) w (placeIn i)))
         (at (s .elements) r i)
     pub control : after .control ≡ s .control
     pub window : w′ ≡ w
@@ -114,7 +114,7 @@ module _ (ins : Instruction) (base stride : ℕ) (s : State) (origin : ℕ) wher
   pub record Stored (w w′ : List ℕ) (after : State) : Type 0 where
     pub inside : (i : ℕ) → operated ins (s .control) i ≡ true → Inside (length w) i
     -- the operated elements stand at their places: byte k of element i, unless a later operated element has it ("so the highest wins")
-    pub bytes : (i k : ℕ) → operated ins (s .control) i ≡ true → k < bytesEach
+    pub bytes : (i k : ℕ) → operated ins (s .control) i ≡ true → k < bytesEach ins
         → ((j : ℕ) → i < j → operated ins (s .control) j ≡ true → Misses j (placeIn i + k))
         → getD w′ (placeIn i + k) 0 ≡ at (s .elements) (ins .vc .0) i / 256 ^ k % 256
     -- every other byte of the window is as it was, and so is the state

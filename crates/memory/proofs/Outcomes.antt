@@ -1,7 +1,7 @@
 -- A memory instruction that is refused leaves the state and the window as they were; one that is done has moved every operated element, each of which
 -- is aligned and lies in the window. Assumes nothing.
 use mathlib.Core.Bool.{Bool, true, false, _&&_}
-use mathlib.Core.Path.{_≡_, refl, sym, ap, _∙_}
+use mathlib.Core.Path.{_≡_, refl, ap, _∙_}
 use mathlib.Core.List.{List}
 use Prim.Native.Nat.{ℕ, _+_, _-_, _%_, _≤_, _<_}
 use native.Mathlib.Omega.{arith}
@@ -12,11 +12,10 @@ use Rattle.numbers.specs.Choice.{pick}
 use Rattle.numbers.proofs.Tests.{and-left, and-right}
 use Rattle.state.specs.declared.answer.Answer.the-variants.{WindowRefused}
 use Rattle.state.specs.Answer.{isDone}
-use Rattle.state.specs.Outcome.{Outcome, afterRefusal, refusedWindow}
+use Rattle.state.specs.Outcome.{afterRefusal, refusedWindow}
 use Rattle.state.specs.State.{State, state}
 use Rattle.opcodes.specs.declared.Instruction.{Instruction}
 use Rattle.opcodes.specs.Masking.{operated}
-use Rattle.memory.specs.declared.Fault.{Fault}
 use Rattle.memory.specs.declared.Fault.the-variants as fault
 use Rattle.memory.specs.declared.Test.{Test}
 use Rattle.memory.specs.declared.Test.the-variants as test
@@ -25,7 +24,7 @@ use Rattle.memory.specs.declared.Search.the-variants as search
 use Rattle.memory.specs.Works.{isStore, isQuadword, sizeOf}
 use Rattle.memory.specs.Window.{allowed}
 use Rattle.memory.specs.Address.{addressOf, found, testOf, tested}
-use Rattle.memory.specs.Move.{movesBy, unlessBad, movedBy, movedOf}
+use Rattle.memory.specs.Move.{movesBy, unlessBad, movedOf}
 use Rattle.memory.proofs.Testing.{all-fine}
 
 -- an element of size bytes that is fine, at an address, in a window from origin to end
@@ -104,6 +103,7 @@ module _ (s : State) (ins : Instruction) (base stride : ℕ) (w : List ℕ) (ori
           record {
             window = e;
             fit = λ i h c. fits size origin (origin + length w) (address i) (all-fine (operated ins (s .control)) tests (s .control .vlr) i fine h c);
-            moved = ap (λ (t : Bool). pick t (unlessBad verdict s w moves) (refusedWindow WindowRefused s w) .left) e ∙ ap (λ (a : Search). unlessBad a s w moves .left) fine;
+            moved = ap (λ (t : Bool). pick t (unlessBad verdict s w moves) (refusedWindow WindowRefused s w) .left) e
+                ∙ ap (λ (a : Search). unlessBad a s w moves .left) fine;
           }
       at false e d = let z : _≡_ {A = ℕ} 0 1 = cc in absurd (omega arith)
