@@ -8,3 +8,4 @@ pub mod Counting
 pub mod Moved
 pub mod Two
 pub mod Three
+pub mod Rounds

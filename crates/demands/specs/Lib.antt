@@ -3,3 +3,4 @@ pub mod Calls
 pub mod One
 pub mod Two
 pub mod Three
+pub mod Rounds

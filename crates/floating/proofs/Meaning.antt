@@ -1,14 +1,17 @@
 -- What a delivered word means: its value is the exact number rounded to the format's bits, half a unit away at most, a half away from zero; and a word's own
--- value delivers that word. What an underflow means: the rounded number is below the smallest. Over the format. Assumes nothing.
-use mathlib.Core.Path.{_≡_, refl, sym, ap, _∙_}
+-- value delivers that word. What underflow and overflow mean: the rounded number is below the smallest, or past the largest. Over the format. Assumes
+-- nothing.
+use mathlib.Core.Path.{_≡_, refl, sym, ap, ap₂, subst, _∙_}
+use mathlib.Core.Logic.{_↔_}
 use mathlib.Core.Bool.{Bool, true, false}
 use Prim.Native.Nat.{ℕ, _+_, _-_, _*_, _^_, _≤_, _<_}
-use native.Mathlib.Nat.{le-trans, le-of-eq, lt-of-lt-of-le, pos-of-ne-zero, mul-one, mul-comm, mul-assoc, mul-left-comm, mul-le-mul-left}
+use native.Mathlib.Nat.{lt-of-not-le, le-trans, le-of-eq, lt-of-lt-of-le, pos-of-ne-zero, mul-one, mul-comm, mul-assoc, mul-left-comm, mul-le-mul-left}
 use native.Mathlib.Omega.{arith}
 use lib.Dec.{eqb, ltb}
 use lib.Pow.{pow-pos}
-use borrow.Author.Tests.{ne-eqb, eqb-false, ltb-false}
+use borrow.Author.Tests.{eq-eqb, ne-eqb, lt-ltb, le-ltb, eqb-false, ltb-false}
 use Rattle.numbers.specs.Choice.{pick}
+use Rattle.floating.specs.declared.Delivery.{Delivery}
 use Rattle.floating.specs.declared.Delivery.the-variants.{Word, Overflow, Underflow}
 use Rattle.floating.specs.Format.{Format, signOf, exponentOf, fractionOf, significandOf, wordOf}
 use Rattle.floating.specs.Exact.{Exact, sizeOf, valueOf}
@@ -16,31 +19,59 @@ use Rattle.floating.specs.Round.{places, rounded}
 use Rattle.floating.specs.Delivered.{judged, delivered}
 use Rattle.floating.specs.Working.{Enough}
 use Rattle.floating.proofs.Arithmetic.{double-power}
-use Rattle.floating.proofs.Rounding.{worth, rounded-below, rounded-reaches, rounded-in, rounded-over, rounded-under}
-use Rattle.floating.proofs.Delivering.{delivered-some, judged-under, judged-word}
+use Rattle.floating.proofs.Rounding.{worth, rounded-within, rounded-past, rounded-below, rounded-reaches, rounded-in, rounded-over, rounded-under}
+use Rattle.floating.proofs.Delivering.{delivered-some, judged-word}
 use Rattle.floating.proofs.Sums.{alone-delivered}
 use Rattle.floating.proofs.Packing.{Sound, fraction-lt, exponent-lt, repacked, sign-back, size-back}
 
--- ---- The smallest number is 2 ^ bits units. An exact number that is not zero underflows exactly where it is more than half a unit below that: rounded, it
--- stays below.
-module _ (f : Format) (v : Exact) (D : 0 < v .den) (some : v .num ≡ 0 → ⊥) where
-  pub delivered-underflow : v .num * 2 ^ (f .bits + f .excess) * 2 + v .den < 2 ^ (f .bits) * (v .den * 2) → delivered f v ≡ Underflow
-  delivered-underflow h =
-      let n = v .num * 2 ^ (f .bits + f .excess) in
-      delivered-some f v some
-      ∙ sym (judged-under f (v .sign) (rounded (f .bits) n (v .den) .sig) (rounded (f .bits) n (v .den) .exp) (rounded-below (f .bits) n (v .den) D h))
+at-least : {a b : ℕ} → (a < b → ⊥) → b ≤ a
+at-least n = omega (arith, n)
 
-  pub delivered-reaches : 2 ^ (f .bits) * (v .den * 2) ≤ v .num * 2 ^ (f .bits + f .excess) * 2 + v .den → delivered f v ≡ Underflow → ⊥
-  delivered-reaches h is =
-      let n = v .num * 2 ^ (f .bits + f .excess) in
-      let e = rounded (f .bits) n (v .den) .exp in
-      let above : (e ≡ 0 → ⊥) = rounded-reaches (f .bits) n (v .den) D h in
-      go (ltb (f .largest) e) (wordOf f (v .sign) e (rounded (f .bits) n (v .den) .sig - 2 ^ (f .bits - 1)))
-      (sym (delivered-some f v some ∙ simp (ne-eqb e 0 above)) ∙ is)
-    where
-      go : (t : Bool) (w : ℕ) → pick t Overflow (Word w) ≡ Underflow → ⊥
-      go true w h = let z : _≡_ {A = ℕ} 0 1 = cc in omega arith
-      go false w h = let z : _≡_ {A = ℕ} 0 1 = cc in omega arith
+-- ---- In units of 2 ^ -(bits + excess) the smallest number is 2 ^ bits, and the largest 2 ^ bits - 1 units of 2 ^ largest. An exact number that is not
+-- zero underflows exactly where it is more than half a unit below the smallest: rounded, it stays below. It overflows exactly where it is half such a
+-- larger unit or more above the largest: rounded, it is past it.
+module _ (f : Format) (v : Exact) (D : 0 < v .den) (some : v .num ≡ 0 → ⊥) where
+  -- v in units, over its denominator
+  abbrev units : ℕ
+  units = v .num * 2 ^ (f .bits + f .excess)
+
+  abbrev field : ℕ
+  field = rounded (f .bits) units (v .den) .exp
+
+  abbrev delivery : Bool → Bool → ℕ → Delivery
+  delivery under over w = pick under Underflow (pick over Overflow (Word w))
+
+  -- what the two tests of its exponent field make of it
+  by-tests : (P : Delivery → Type 0) (under over : Bool) → eqb field 0 ≡ under → ltb (f .largest) field ≡ over
+      → ((w : ℕ) → P (delivery under over w)) → P (delivered f v)
+  by-tests P under over hu ho all =
+      let w = wordOf f (v .sign) field (rounded (f .bits) units (v .den) .sig - 2 ^ (f .bits - 1)) in
+      subst P (sym (delivered-some f v some ∙ ap₂ (λ (a b : Bool). delivery a b w) hu ho)) (all w)
+
+  not-under : (over : Bool) (w : ℕ) → delivery false over w ≡ Underflow → ⊥
+  not-under true w h = let z : _≡_ {A = ℕ} 0 1 = cc in omega arith
+  not-under false w h = let z : _≡_ {A = ℕ} 0 1 = cc in omega arith
+
+  not-over : (under : Bool) (w : ℕ) → delivery under false w ≡ Overflow → ⊥
+  not-over true w h = let z : _≡_ {A = ℕ} 0 1 = cc in omega arith
+  not-over false w h = let z : _≡_ {A = ℕ} 0 1 = cc in omega arith
+
+  pub underflow-means : (delivered f v ≡ Underflow) ↔ (units * 2 + v .den < 2 ^ (f .bits) * (v .den * 2))
+  underflow-means = (
+    λ is. lt-of-not-le (λ h. by-tests (λ (d : Delivery). d ≡ Underflow → ⊥) false (ltb (f .largest) field)
+        (ne-eqb field 0 (rounded-reaches (f .bits) units (v .den) D h)) refl (not-under (ltb (f .largest) field)) is),
+    λ h. by-tests (λ (d : Delivery). d ≡ Underflow) true (ltb (f .largest) field)
+        (eq-eqb field 0 (rounded-below (f .bits) units (v .den) D h)) refl (λ w. refl),
+  )
+
+  pub overflow-means : (delivered f v ≡ Overflow)
+      ↔ (2 ^ (f .bits) * (v .den * 2 ^ (f .largest) * 2) ≤ units * 2 + v .den * 2 ^ (f .largest))
+  overflow-means = (
+    λ is. at-least (λ h. by-tests (λ (d : Delivery). d ≡ Overflow → ⊥) (eqb field 0) false refl
+        (le-ltb (f .largest) field (rounded-within (f .bits) units (v .den) (f .largest) D h)) (not-over (eqb field 0)) is),
+    λ h. let past = rounded-past (f .bits) units (v .den) (f .largest) D h in
+        by-tests (λ (d : Delivery). d ≡ Overflow) false true (ne-eqb field 0 (λ z. omega arith)) (lt-ltb (f .largest) field past) (λ w. refl),
+  )
 
 module _ (f : Format) (S : Sound f) where
   -- ---- a word was in range
@@ -69,14 +100,11 @@ module _ (f : Format) (S : Sound f) where
     -- it has `bits` digits before its point
     enough : Enough (f .bits) n (v .den)
     enough =
-        let reached : 2 ^ (f .bits) * (v .den * 2) ≤ n * 2 + v .den = not-lt (λ h. told .above (rounded-below (f .bits) n (v .den) D h)) in
+        let reached : 2 ^ (f .bits) * (v .den * 2) ≤ n * 2 + v .den = at-least (λ h. told .above (rounded-below (f .bits) n (v .den) D h)) in
         let twice : 2 ^ (f .bits) * (v .den * 2) ≡ v .den * 2 ^ (f .bits - 1) * 4 = doubled (v .den) in
         let one : v .den ≤ v .den * 2 ^ (f .bits - 1) = le-trans (le-of-eq (sym (mul-one (v .den)))) (mul-le-mul-left (v .den) (pow-pos (f .bits - 1))) in
         omega arith
       where
-        not-lt : {a b : ℕ} → (a < b → ⊥) → b ≤ a
-        not-lt n = omega (arith, n)
-
         doubled : (d : ℕ) → 2 ^ (f .bits) * (d * 2) ≡ d * 2 ^ (f .bits - 1) * 4
         doubled d = ap (λ (z : ℕ). z * (d * 2)) (sym (double-power (f .bits) (S .first))) ∙ simp (mul-assoc, mul-comm, mul-left-comm) (omega arith)
 

@@ -5,6 +5,7 @@ use native.Mathlib.Nat.{le-trans, le-of-eq, le-antisymm, sub-eq-zero-of-le, lt-o
 use native.Mathlib.Nat.{div-lt-iff-lt-mul, div-mul-le-self, lt-div-mul-add, div-div-eq-div-mul, mul-div-mul-right, add-mul-div-right, one-mul, mul-one}
 use native.Mathlib.Nat.{mul-comm, mul-assoc, mul-left-comm, add-mul, mul-le-mul-left, mul-le-mul-right, mul-pos}
 use native.Mathlib.Omega.{arith}
+use native.Mathlib.Decide.{ℕ-discrete}
 use mathlib.Core.Bool.{Bool, true, false, not}
 use lib.Dec.{T, ltb, ltb→lt, nltb→le}
 use lib.Pow.{pow-add, pow-pos, pow-mono}
@@ -197,36 +198,82 @@ carried-steps p r k = go (ltb r (2 ^ p))
     go true = (omega arith, omega arith)
     go false = (omega arith, omega arith)
 
--- ---- the exponent is 0 exactly where the number, rounded to a whole number, stays below 2 ^ p
-module _ (p num den : ℕ) (D : 0 < den) where
-  pub no-places : num < 2 ^ p * den → places p num den ≡ 0
-  no-places h = sub-eq-zero-of-le (size-le (num / den) p (div-lt-iff-lt-mul D .1 h))
+-- ---- the exponent is past l exactly where the number, rounded to whole units of 2 ^ l, reaches 2 ^ p of them
+module _ (p num den l : ℕ) (D : 0 < den) where
+  abbrev unit : ℕ
+  unit = den * 2 ^ l
 
-  -- with no digit past p
-  at-none : places p num den ≡ 0 → rounded p num den ≡ carried p (near num den) 0
+  U : 0 < unit
+  U = mul-pos D (pow-pos l)
+
+  twice : 2 ^ p * (unit * 2) ≡ 2 ^ p * unit * 2
+  twice = sym (mul-assoc (2 ^ p) unit 2)
+
+  few-places : num < 2 ^ p * unit → places p num den ≤ l
+  few-places h =
+      let e : 2 ^ p * unit ≡ 2 ^ (p + l) * den = mul-comm (2 ^ p) unit ∙ shuffle den l p (p + l) refl in
+      let s = size-le (num / den) (p + l) (div-lt-iff-lt-mul D .1 (lt-of-lt-of-le h (le-of-eq e))) in
+      omega arith
+
+  at-places : (k : ℕ) → places p num den ≡ k → rounded p num den ≡ carried p (near num (den * 2 ^ k)) k
   unfolding rounded
-  at-none none = ap (λ (k : ℕ). carried p (near num (den * 2 ^ k)) k) none ∙ ap (λ (d : ℕ). carried p (near num d) 0) (mul-one den)
+  at-places k e = ap (λ (k : ℕ). carried p (near num (den * 2 ^ k)) k) e
 
+  steps : (places p num den ≤ rounded p num den .exp) × (rounded p num den .exp ≤ places p num den + 1)
+  unfolding rounded
+  steps = carried-steps p (near num (den * 2 ^ places p num den)) (places p num den)
+
+  pub rounded-within : num * 2 + unit < 2 ^ p * (unit * 2) → rounded p num den .exp ≤ l
+  rounded-within h = go (ℕ-discrete (places p num den) l)
+    where
+      short : places p num den ≤ l
+      short = few-places (let e = twice in omega arith)
+
+      under : near num unit < 2 ^ p
+      under = div-lt-iff-lt-mul (twice-pos num unit U) .1 h
+
+      go : Dec (places p num den ≡ l) → rounded p num den .exp ≤ l
+      go (yes e) = le-of-eq (ap (λ (x : Rounded). x .exp) (at-places l e) ∙ simp (lt-ltb (near num unit) (2 ^ p) under))
+      go (no e) = let s = steps .1 in omega (arith, short, e)
+
+  pub rounded-past : 2 ^ p * (unit * 2) ≤ num * 2 + unit → l < rounded p num den .exp
+  rounded-past h = go (ℕ-discrete (places p num den) l)
+    where
+      over : 2 ^ p ≤ near num unit
+      over = le-div-iff-mul-le (twice-pos num unit U) .1 h
+
+      -- with fewer places the number is less than half of that
+      short : places p num den < l → ⊥
+      short g =
+          let k = places p num den in
+          let less : num / den < 2 ^ (p + k) = lt-of-lt-of-le (size-lt (num / den)) (pow-mono (omega arith)) in
+          let a : num < 2 ^ (p + k) * den = div-lt-iff-lt-mul D .0 less in
+          let b : 2 ^ (p + k) * den * 2 ≤ 2 ^ p * unit =
+          le-trans (le-of-eq (mul-comm (2 ^ (p + k) * den) 2 ∙ sym (mul-assoc 2 (2 ^ (p + k)) den) ∙ ap (λ (z : ℕ). z * den) (pow-two 1 (p + k) (1 + (p + k)) refl)))
+          (le-trans (mul-le-mul-right den (pow-mono (omega (arith, g))))
+          (le-of-eq (sym (mul-comm (2 ^ p) unit ∙ shuffle den l p (p + l) refl)))) in
+          let c : unit ≤ 2 ^ p * unit = le-trans (le-of-eq (sym (one-mul unit))) (mul-le-mul-right unit (pow-pos p)) in
+          let e = twice in
+          omega arith
+
+      go : Dec (places p num den ≡ l) → l < rounded p num den .exp
+      go (yes e) =
+          let one : rounded p num den .exp ≡ l + 1 = ap (λ (x : Rounded). x .exp) (at-places l e) ∙ simp (le-ltb (near num unit) (2 ^ p) over) in
+          omega arith
+      go (no e) = let s = steps .0 in let n : (places p num den < l → ⊥) = short in omega (arith, e, n)
+
+-- so it is 0 exactly where the number, rounded to a whole number, stays below 2 ^ p
+module _ (p num den : ℕ) (D : 0 < den) where
   pub rounded-below : num * 2 + den < 2 ^ p * (den * 2) → rounded p num den .exp ≡ 0
   rounded-below h =
-      let e : 2 ^ p * (den * 2) ≡ 2 ^ p * den * 2 = sym (mul-assoc (2 ^ p) den 2) in
-      let less : num < 2 ^ p * den = omega arith in
-      let under : near num den < 2 ^ p = div-lt-iff-lt-mul (twice-pos num den D) .1 h in
-      ap (λ (x : Rounded). x .exp) (at-none (no-places less)) ∙ simp (lt-ltb (near num den) (2 ^ p) under)
-
-  pub rounded-up : 2 ^ p * (den * 2) ≤ num * 2 + den → places p num den ≡ 0 → rounded p num den ≡ record { sig = 2 ^ (p - 1); exp = 1 }
-  rounded-up h none =
-      let over : 2 ^ p ≤ near num den = le-div-iff-mul-le (twice-pos num den D) .1 h in
-      at-none none ∙ simp (le-ltb (near num den) (2 ^ p) over)
-
-  pub places-counted : places p num den ≤ rounded p num den .exp
-  unfolding rounded
-  places-counted = carried-steps p (near num (den * 2 ^ places p num den)) (places p num den) .0
+      let e = mul-one den in
+      let z : rounded p num den .exp ≤ 0 = rounded-within p num den 0 D (rw e h) in
+      omega arith
 
   pub rounded-reaches : 2 ^ p * (den * 2) ≤ num * 2 + den → rounded p num den .exp ≡ 0 → ⊥
   rounded-reaches h z =
-      let none : places p num den ≡ 0 = omega (arith, places-counted) in
-      let one : rounded p num den .exp ≡ 1 = ap (λ (x : Rounded). x .exp) (rounded-up h none) in
+      let e = mul-one den in
+      let s : 0 < rounded p num den .exp = rounded-past p num den 0 D (rw e h) in
       omega arith
 
 -- ---- Only the whole part counts where it has more than p digits: what is below it makes or unmakes no half.
