@@ -1,6 +1,6 @@
 #!/bin/sh
 # What a reader must believe stands apart. A file of definitions (crates/*/specs) that a promise cites, itself or through other
-# definitions, is believed; one that none cites has Working in its name, and no believed file uses it. docs/READING.md lists the believed
+# definitions, is believed, and so is what the three demands say; one that none cites has Working in its name, and no believed file uses it. docs/READING.md lists the believed
 # files, all of them and in an order in which each stands on those before it. Counts what there is to read: lines that are neither empty
 # nor a comment nor an import.
 set -eu
@@ -10,6 +10,9 @@ cd "$(dirname "$0")/.."
 # the floating operations alone.
 calls=crates/kujawian/src/lib.rt
 others="crates/panel/src/lib.rt crates/listing/src/lib.rt crates/running/src/lib.rt crates/floating_c/src/lib.rt"
+
+# What the theorems of the three demands say is believed too.
+theorems=$(find crates/demands/specs -name '*.antt' ! -name Lib.antt | sort)
 
 definitions=$(find crates/*/specs -name '*.antt' ! -name Lib.antt | sort)
 
@@ -73,7 +76,7 @@ say() {
 }
 
 # shellcheck disable=SC2086
-believed=$(cited "$calls" $others)
+believed=$({ cited "$calls" $others $theorems; echo "$theorems"; } | sort -u)
 for file in $definitions; do
     case $file in *Working.antt) working=yes ;; *) working=no ;; esac
     if echo "$believed" | grep -qxF "$file"; then
@@ -106,4 +109,4 @@ for_c=$(lines $(cited "$calls"))
 promises=$(grep -c '^    ensures' "$calls")
 # shellcheck disable=SC2086
 all=$(lines $believed)
-echo "believed: $for_c lines of definitions and $promises promises for the calls from C; $all lines of definitions with the programs"
+echo "believed: $for_c lines of definitions and $promises promises for the calls from C; $all lines with the programs and the three demands"
