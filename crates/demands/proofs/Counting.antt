@@ -22,7 +22,7 @@ use Rattle.machine.specs.Instruction.{stepOf, stepsBelow, wholeOf, instructionD
 use Rattle.machine.proofs.IotaLaws.{matching-le}
 use Rattle.machine.proofs.IotaTouches.{Outside, past, walked-length, walked-outside}
 use Rattle.demands.specs.Two.{Counted}
-use Rattle.demands.proofs.Elementwise.{Ends, ends-run}
+use Rattle.demands.proofs.Ending.{RunEnd, ends-run}
 
 module _ (vmr : ℕ) (mtf : Bool) (stride vc : ℕ) (l : List ℕ) (register : vc < 16) (count : length l ≡ 1024) where
   -- the mask bit that element e is of, among those below n
@@ -95,6 +95,7 @@ module _ (ins : Instruction) (scalar : ℕ) (s : State) (fields : Below ins) (co
   ends : Counted ins scalar s (finished last)
   unfolding iotaStep
   ends = record {
+    count = walked-length (s .control .vmr) (ins .mtf) (low scalar) (ins .vc .0) (s .control .vlr) (s .elements) ∙ count;
     vcr = end .vcr;
     counted = λ e h.
         let t = turns (s .control .vmr) (ins .mtf) (low scalar) (ins .vc .0) (s .elements) (fields .vc) count (s .control .vlr) few e (rw (end .vcr) at h) in
@@ -107,7 +108,7 @@ module _ (ins : Instruction) (scalar : ℕ) (s : State) (fields : Below ins) (co
     vpsr = end .vpsr;
   }
     where
-      end : Ends (last .progress)
+      end : RunEnd (last .progress)
       end = ends-run (last .progress)
 
       outside : (r e : ℕ) → r < 16 → e < 64 → (r ≡ ins .vc .0 → matching (s .control .vmr) (ins .mtf) (s .control .vlr) ≤ e)

@@ -16,7 +16,6 @@ use Rattle.numbers.proofs.BitLaws.{bit-replaced, bit-kept, decEq}
 use Rattle.numbers.proofs.Tests.{pick-true, pick-false}
 use Rattle.state.specs.State.{State, placeOf, withVmr, vpsrInRange}
 use Rattle.state.specs.Elements.{at}
-use Rattle.state.proofs.Ranges.{stopped as stopped-status}
 use Rattle.opcodes.specs.declared.Instruction.{Instruction}
 use Rattle.opcodes.specs.Opcodes.{workAt, writesMask, ignoresMoe, readsVa, readsVb, inOneStep}
 use Rattle.opcodes.specs.ControlWord.{fieldOf}
@@ -25,11 +24,11 @@ use Rattle.opcodes.specs.Working.{Below}
 use Rattle.element.specs.declared.Out.{Out}
 use Rattle.element.specs.Receives.{resultOf}
 use Rattle.machine.specs.declared.Gathered.{Gathered}
-use Rattle.machine.specs.declared.Progress.{Progress}
-use Rattle.machine.specs.Run.{Run, run, progress, noted, joined, begun, stopped, ended, finished}
+use Rattle.machine.specs.Run.{Run, run, progress, noted, joined, begun, finished}
 use Rattle.machine.specs.Step.{received, registerBit, notes, written, recorded, worked, elementStep}
 use Rattle.machine.specs.Instruction.{stepOf, stepsBelow, wholeOf, instructionDone}
 use Rattle.machine.proofs.Gather.{noted-both}
+use Rattle.demands.proofs.Ending.{RunEnd, ends-run, halts}
 use Rattle.demands.proofs.Coming.{and-none, and-twice, come, come-not, come-first, come-before, come-now, come-same}
 use Rattle.demands.specs.Two.{receives, recordedBelow, recordedBy, ElementByElement}
 
@@ -44,22 +43,6 @@ made ins scalar b x y z =
 made-same : (ins : Instruction) (scalar : ℕ) {b b′ : Bool} {x x′ y y′ z z′ : ℕ} → b ≡ b′ → x ≡ x′ → y ≡ y′ → z ≡ z′
     → made ins scalar b x y z ≡ made ins scalar b′ x′ y′ z′
 made-same ins scalar d e f g = cc
-
--- the control numbers at the end of a run
-pub record Ends (p : Progress) : Type 0 where
-  pub vlr : ended p .vlr ≡ p .control .vlr
-  pub vmr : ended p .vmr ≡ p .control .vmr
-  pub vcr : ended p .vcr ≡ p .control .vcr
-  pub vaer : ended p .vaer ≡ bitOr (p .control .vaer) (p .gathered .vaer)
-  pub vpsr : ended p .vpsr ≡ pick (p .gathered .recorded) (withBit (withBit (p .control .vpsr) 0 0) 7 1) (p .control .vpsr)
-
-pub ends-run : (p : Progress) → Ends p
-unfolding ended
-ends-run p = by (p .gathered .recorded) refl
-  where
-    by : (t : Bool) → p .gathered .recorded ≡ t → Ends p
-    by true e = record { vlr = rw e refl; vmr = rw e refl; vcr = rw e refl; vaer = rw e refl; vpsr = rw e refl }
-    by false e = record { vlr = rw e refl; vmr = rw e refl; vcr = rw e refl; vaer = rw e refl; vpsr = rw e refl }
 
 module _ (ins : Instruction) (scalar : ℕ) (s : State) (fields : Below ins) where
   abbrev on : ℕ → Bool
@@ -259,6 +242,7 @@ module _ (ins : Instruction) (scalar : ℕ) (s : State) (fields : Below ins) whe
 
       ends : ElementByElement ins scalar s (finished last)
       ends = record {
+        count = all .long;
         elements = λ r i a b. all .elements r i a b
             ∙ ap (λ (t : Bool). pick (not (writesMask ins) && eqb r (ins .vc .0) && t) (value i) (at (s .elements) r i)) (every i);
         mask = λ i. ap (λ (v : ℕ). bit v i) (end .vmr) ∙ all .mask i
@@ -267,15 +251,11 @@ module _ (ins : Instruction) (scalar : ℕ) (s : State) (fields : Below ins) whe
         vcr = end .vcr ∙ all .vcr;
         vaer = end .vaer ∙ ap₂ bitOr (all .vaer) (ap (λ (g : Gathered). g .vaer) (all .gathered));
         vpsr = end .vpsr ∙ ap₂ (λ (g : Gathered) (v : ℕ). pick (g .recorded) (withBit (withBit v 0 0) 7 1) v) (all .gathered) (all .vpsr)
-            ∙ halts (eqb (recordedBy ins scalar s) 0);
+            ∙ halts (s .control .vpsr) ranged (eqb (recordedBy ins scalar s) 0);
       }
         where
-          end : Ends (last .progress)
+          end : RunEnd (last .progress)
           end = ends-run (last .progress)
-
-          halts : (t : Bool) → pick (not t) (withBit (withBit (s .control .vpsr) 0 0) 7 1) (s .control .vpsr) ≡ pick t (s .control .vpsr) 0x80
-          halts true = refl
-          halts false = stopped-status (s .control .vpsr) ranged
 
       pub leaves : ElementByElement ins scalar s (instructionDone ins scalar s)
       unfolding instructionDone wholeOf

@@ -3,6 +3,8 @@ pub mod Keeping
 pub mod CallsKeep
 pub mod One
 pub mod Coming
+pub mod Ending
+pub mod Gathering
 pub mod Elementwise
 pub mod Counting
 pub mod Moved

@@ -1,21 +1,34 @@
--- What a rounded result means, for F: nearest, a half away from zero; and when it underflows or overflows. Assumes nothing.
+-- What a rounded result means, for F: the theorem `F-rounds`. Assumes nothing.
 use mathlib.Core.Path.{_≡_}
 use Prim.Native.Nat.{ℕ, _<_}
+use Rattle.floating.specs.declared.Delivery.the-variants.{Word}
 use Rattle.floating.specs.Format.{Format, F}
 use Rattle.floating.specs.Exact.{Exact}
+use Rattle.floating.specs.Delivered.{delivered}
 use Rattle.floating.proofs.Packing.{Sound, F-sound}
-use Rattle.floating.proofs.Meaning.{underflow-means, overflow-means, delivered-sign, delivered-over, delivered-under}
-use Rattle.demands.specs.Rounds.{Rounds}
+use Rattle.floating.proofs.Meaning.{underflow-means, overflow-means, word-else, zero-word, delivered-sign, delivered-lt, delivered-over, delivered-under}
+use Rattle.demands.specs.Rounds.{Nearest, Rounds}
 
--- over the format
-rounds : (f : Format) → Sound f → (v : Exact) → v .sign < 2 → 0 < v .den → (v .num ≡ 0 → ⊥) → Rounds f v
-rounds f S v hs D some = record {
-  underflow = underflow-means f v D some;
-  overflow = overflow-means f v D some;
-  sign = λ w is. delivered-sign f S v w hs D some is;
-  above = λ w is. delivered-over f S v w hs D some is;
-  below = λ w is. delivered-under f S v w hs D some is;
-}
+module _ (f : Format) (S : Sound f) (v : Exact) where
+  nearest : v .sign < 2 → 0 < v .den → (v .num ≡ 0 → ⊥) → (w : ℕ) → delivered f v ≡ Word w → Nearest f v w
+  nearest hs D some w is = record {
+    is = is;
+    sign = delivered-sign f S v w hs D some is;
+    fits = delivered-lt f S v w hs D some is;
+    above = delivered-over f S v w hs D some is;
+    below = delivered-under f S v w hs D some is;
+  }
 
-pub F-rounds : (v : Exact) → v .sign < 2 → 0 < v .den → (v .num ≡ 0 → ⊥) → Rounds F v
+  -- over the format
+  rounds : Rounds f v
+  rounds = record {
+    zero = zero-word f v;
+    some = λ hs D some. record {
+      underflow = underflow-means f v D some;
+      overflow = overflow-means f v D some;
+      word = λ under over. let x = word-else f v D some under over in (x .0, nearest hs D some (x .0) (x .1));
+    };
+  }
+
+pub F-rounds : (v : Exact) → Rounds F v
 F-rounds = rounds F F-sound

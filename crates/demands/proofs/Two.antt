@@ -1,15 +1,15 @@
--- DEMAND 2, the theorem `holds`: what any instruction that was done leaves, from its entry state. Beside it the two round trips of saving and loading.
--- Assumes nothing.
+-- DEMAND 2, the theorem `holds`: when an instruction is done, and what it then leaves, from its entry state. Beside it
+-- the two round trips of saving and loading. Assumes nothing.
 use mathlib.Core.Bool.{Bool, true, false, _&&_}
 use mathlib.Core.List.{List}
-use mathlib.Core.Path.{_≡_, refl, sym, ap, _∙_}
+use mathlib.Core.Path.{_≡_, refl, sym, ap, subst, _∙_}
 use Prim.Native.Nat.{ℕ, _+_, _≤_, _<_}
 use native.Mathlib.Omega.{arith}
 use borrow.Author.Tests.{ltb-true}
 use lib.Dec.{ltb, eqb}
 use lib.ListN.{length, getD}
 use Rattle.numbers.specs.Choice.{pick}
-use Rattle.numbers.proofs.Tests.{true-not-false, and-left}
+use Rattle.numbers.proofs.Tests.{true-not-false, and-left, pick-true, pick-false}
 use Rattle.state.specs.declared.Control.{Control}
 use Rattle.state.specs.declared.answer.Answer.the-variants.{Done, OutOfRange}
 use Rattle.state.specs.Answer.{isDone}
@@ -29,12 +29,13 @@ use Rattle.opcodes.specs.Working.{Below}
 use Rattle.opcodes.proofs.Passed.{passed, refusal}
 use Rattle.machine.specs.Instruction.{instructionDone}
 use Rattle.memory.specs.Works.{isStore, isQuadword}
-use Rattle.memory.specs.Window.{numberAt}
+use Rattle.memory.specs.Window.{allowed, numberAt}
 use Rattle.memory.specs.Move.{received, movesBy, movedOf}
 use Rattle.memory.proofs.Outcomes as memory
 use Rattle.execute.specs.Execute.{carriedOut, asDecoded, executedOf}
+use Rattle.saved.proofs.Saving.{saves-done}
 use Rattle.saved.proofs.RoundTrip.{loads-again, saves-again}
-use Rattle.demands.specs.Two.{placeIn, bytesEach, Inside, Loaded, Stored, DemandTwo, LoadsAgain, SavesAgain}
+use Rattle.demands.specs.Two.{placeIn, bytesEach, Inside, Loaded, Stored, Accepts, Leaves, DemandTwo, LoadsAgain, SavesAgain}
 use Rattle.demands.proofs.Coming.{and-twice, come}
 use Rattle.demands.proofs.Elementwise as elementwise
 use Rattle.demands.proofs.Counting as counting
@@ -49,129 +50,196 @@ every : (ins : Instruction) (c : Control) (i : ℕ) → come (operated ins c) (c
 unfolding operated
 every ins c i = and-twice (ltb i (c .vlr)) _
 
--- ---- a memory instruction that was done
-module _ (ins : Instruction) (base stride : ℕ) (s : State) (origin : ℕ) (w : List ℕ) (register : ins .vc .0 < 16) (count : length (s .elements) ≡ 1024)
-    (few : s .control .vlr ≤ 64) (done : isDone (movedOf s ins base stride w origin .answer) ≡ true) where
-  abbrev told : memory.Done s ins base stride w origin
-  told = memory.moved-done s ins base stride w origin done
+-- ---- a memory instruction
+module _ (ins : Instruction) (base stride : ℕ) (s : State) (origin : ℕ) (w : List ℕ) where
+  -- that was done
+  module _ (done : isDone (movedOf s ins base stride w origin .answer) ≡ true) where
+    abbrev told : memory.Done s ins base stride w origin
+    told = memory.moved-done s ins base stride w origin done
 
-  inside : (i : ℕ) → operated ins (s .control) i ≡ true → Inside ins base stride s origin (length w) i
-  inside i e =
-      let f = told .fit i (below ins (s .control) i e) e in
-      record { aligned = f .aligned; from = f .from; to = let a = f .from in let b = f .to in omega arith }
+    inside : (i : ℕ) → operated ins (s .control) i ≡ true → Inside ins base stride s origin (length w) i
+    inside i e =
+        let f = told .fit i (below ins (s .control) i e) e in
+        record { aligned = f .aligned; from = f .from; to = let a = f .from in let b = f .to in omega arith }
 
-  -- it moved elements, or bytes
-  abbrev moves : Bool → List ℕ × List ℕ
-  moves store =
-      movesBy store (isQuadword (ins .work)) (ins .vc .0) (operated ins (s .control)) (placeIn ins base stride s origin) (s .control .vlr) (s .elements) w
+    -- it moved elements, or bytes
+    abbrev moves : Bool → List ℕ × List ℕ
+    moves store =
+        movesBy store (isQuadword (ins .work)) (ins .vc .0) (operated ins (s .control)) (placeIn ins base stride s origin) (s .control .vlr) (s .elements) w
 
-  moved : (store : Bool) → isStore (ins .work) ≡ store → movedOf s ins base stride w origin .left ≡ (state (moves store .0) (s .control), moves store .1)
-  moved store e = rw (← e) (told .moved)
+    moved : (store : Bool) → isStore (ins .work) ≡ store → movedOf s ins base stride w origin .left ≡ (state (moves store .0) (s .control), moves store .1)
+    moved store e = rw (← e) (told .moved)
 
-  loads : isStore (ins .work) ≡ false → (o : State × List ℕ) → movedOf s ins base stride w origin .left ≡ o → Loaded ins base stride s origin w (o .1) (o .0)
-  loads e o is =
-      let m = sym is ∙ moved false e in
-      let gets : ℕ → ℕ → ℕ =
-      λ r i. received (isQuadword (ins .work)) (at (s .elements) r i) (numberAt (bytesEach ins) w (placeIn ins base stride s origin i)) in
-      let u = loaded (isQuadword (ins .work)) (ins .vc .0) (operated ins (s .control)) (placeIn ins base stride s origin) w (s .elements) register count
-      (s .control .vlr) few in
-      record {
-        inside = inside;
-        elements = λ r i a b. ap (λ (x : State × List ℕ). at (x .0 .elements) r i) m ∙ u .elements r i a b
-            ∙ ap (λ (t : Bool). pick (eqb r (ins .vc .0) && t) (gets r i) (at (s .elements) r i)) (every ins (s .control) i);
-        control = ap (λ (x : State × List ℕ). x .0 .control) m;
-        window = ap (λ (x : State × List ℕ). x .1) m;
-      }
+    loads : ins .vc .0 < 16 → length (s .elements) ≡ 1024 → s .control .vlr ≤ 64 → isStore (ins .work) ≡ false
+        → Loaded ins base stride s origin w (movedOf s ins base stride w origin .left .1) (movedOf s ins base stride w origin .left .0)
+    loads register count few e =
+        let m = moved false e in
+        let gets : ℕ → ℕ → ℕ =
+        λ r i. received (isQuadword (ins .work)) (at (s .elements) r i) (numberAt (bytesEach ins) w (placeIn ins base stride s origin i)) in
+        let u = loaded (isQuadword (ins .work)) (ins .vc .0) (operated ins (s .control)) (placeIn ins base stride s origin) w (s .elements) register count
+        (s .control .vlr) few in
+        record {
+          count = ap (λ (x : State × List ℕ). length (x .0 .elements)) m ∙ u .long;
+          elements = λ r i a b. ap (λ (x : State × List ℕ). at (x .0 .elements) r i) m ∙ u .elements r i a b
+              ∙ ap (λ (t : Bool). pick (eqb r (ins .vc .0) && t) (gets r i) (at (s .elements) r i)) (every ins (s .control) i);
+          control = ap (λ (x : State × List ℕ). x .0 .control) m;
+          window = ap (λ (x : State × List ℕ). x .1) m;
+        }
 
-  fit : (i : ℕ) → i < s .control .vlr → operated ins (s .control) i ≡ true → placeIn ins base stride s origin i + bytesEach ins ≤ length w
-  fit i h e = inside i e .to
+    fit : (i : ℕ) → i < s .control .vlr → operated ins (s .control) i ≡ true → placeIn ins base stride s origin i + bytesEach ins ≤ length w
+    fit i h e = inside i e .to
 
-  stores : isStore (ins .work) ≡ true → (o : State × List ℕ) → movedOf s ins base stride w origin .left ≡ o → Stored ins base stride s origin w (o .1) (o .0)
-  stores e o is =
-      let m = sym is ∙ moved true e in
-      let q = isQuadword (ins .work) in
-      record {
-        inside = inside;
-        bytes = λ i k c h later. ap (λ (x : State × List ℕ). getD (x .1) (placeIn ins base stride s origin i + k) 0) m
-            ∙ stored-bytes q (ins .vc .0) (operated ins (s .control)) (placeIn ins base stride s origin) w (s .elements) (s .control .vlr) fit i k
-            (below ins (s .control) i c) c h (λ j a b. later j a);
-        others = λ k misses. ap (λ (x : State × List ℕ). getD (x .1) k 0) m
-            ∙ stored-others q (ins .vc .0) (operated ins (s .control)) (placeIn ins base stride s origin) w (s .elements) (s .control .vlr) fit k
-            (λ i h. misses i);
-        length = ap (λ (x : State × List ℕ). length (x .1)) m
-            ∙ stored-length q (ins .vc .0) (operated ins (s .control)) (placeIn ins base stride s origin) w (s .elements) (s .control .vlr) fit;
-        state = ap (λ (x : State × List ℕ). x .0) m;
-      }
+    stores : isStore (ins .work) ≡ true
+        → Stored ins base stride s origin w (movedOf s ins base stride w origin .left .1) (movedOf s ins base stride w origin .left .0)
+    stores e =
+        let m = moved true e in
+        let q = isQuadword (ins .work) in
+        record {
+          bytes = λ i k c h later. ap (λ (x : State × List ℕ). getD (x .1) (placeIn ins base stride s origin i + k) 0) m
+              ∙ stored-bytes q (ins .vc .0) (operated ins (s .control)) (placeIn ins base stride s origin) w (s .elements) (s .control .vlr) fit i k
+              (below ins (s .control) i c) c h (λ j a b. later j a);
+          others = λ k misses. ap (λ (x : State × List ℕ). getD (x .1) k 0) m
+              ∙ stored-others q (ins .vc .0) (operated ins (s .control)) (placeIn ins base stride s origin) w (s .elements) (s .control .vlr) fit k
+              (λ i h. misses i);
+          length = ap (λ (x : State × List ℕ). length (x .1)) m
+              ∙ stored-length q (ins .vc .0) (operated ins (s .control)) (placeIn ins base stride s origin) w (s .elements) (s .control .vlr) fit;
+          state = ap (λ (x : State × List ℕ). x .0) m;
+        }
+
+  -- that has to be done
+  does : allowed (length w) origin ≡ true → ((i : ℕ) → operated ins (s .control) i ≡ true → Inside ins base stride s origin (length w) i)
+      → movedOf s ins base stride w origin .answer ≡ Done 0
+  does window inside =
+      memory.done-if s ins base stride w origin window
+      (λ i h c. let f = inside i c in record { aligned = f .aligned; from = f .from; to = let a = f .from in let b = f .to in omega arith })
 
 -- ---- the call
 module _ (s : State) (opcode cntrl scalar base stride : ℕ) (w : List ℕ) (origin : ℕ) where
-  abbrev After : Outcome (State × List ℕ) → Type 0
-  After o = DemandTwo s opcode cntrl scalar base stride w origin (o .left .0) (o .left .1)
+  abbrev executed : Outcome (State × List ℕ)
+  executed = executedOf s opcode cntrl scalar base stride w origin
 
-  module _ (count : length (s .elements) ≡ 1024) (range : inRange (s .control) ≡ true) where
-    carried : (ins : Instruction) → decodedOf true false 0 opcode cntrl ≡ Accepted ins
-        → isDone (carriedOut ins s scalar base stride w origin .answer) ≡ true → After (carriedOut ins s scalar base stride w origin)
+  abbrev Accepted-as : Instruction → Type 0
+  Accepted-as ins = Accepts s opcode cntrl base stride w origin ins
+
+  -- ---- what is done was accepted
+  off : (ins : Instruction) → decodedOf false false 0 opcode cntrl ≡ Accepted ins → ⊥
+  unfolding decodedOf
+  off ins = by (opcodeOf opcode)
+    where
+      by : (o : Opcode) → byOpcode false false 0 cntrl o ≡ Accepted ins → ⊥
+      by entry.Reserved h = let z : _≡_ {A = ℕ} 0 1 = cc in omega arith
+      by (entry.Accepted w s) h = let z : _≡_ {A = ℕ} 0 1 = cc in omega arith
+
+  module _ (ranged : inRange (s .control) ≡ true) where
+    carried-accepts : (ins : Instruction) → enabled (s .control) ≡ true → decodedOf true false 0 opcode cntrl ≡ Accepted ins
+        → isDone (carriedOut ins s scalar base stride w origin .answer) ≡ true → Accepted-as ins
     unfolding carriedOut
-    carried ins says done =
-        let p = passed true false 0 opcode cntrl ins says in
-        let r = ranged (s .control) range in
-        let fields : Below ins = record { va = p .va-below; vb = p .vb-below; vc = p .vc-below } in
-        by (isMemory (ins .work)) refl done fields r
+    carried-accepts ins on says done = by (isMemory (ins .work)) refl done
       where
         by : (t : Bool) → isMemory (ins .work) ≡ t
-            → isDone (pick t (movedOf s ins base stride w origin) (outcome (Done 0) (instructionDone ins scalar s, w)) .answer) ≡ true
-            → Below ins → Ranged (s .control)
-            → After (pick t (movedOf s ins base stride w origin) (outcome (Done 0) (instructionDone ins scalar s, w)))
-        by true m done fields r = record {
-          ins = ins;
+            → isDone (pick t (movedOf s ins base stride w origin) (outcome (Done 0) (instructionDone ins scalar s, w)) .answer) ≡ true → Accepted-as ins
+        by true m done = record {
+          ranged = ranged;
+          on = on;
           says = says;
-          elementwise = λ n. absurd (true-not-false (sym n ∙ m));
-          iota = λ n. absurd (true-not-false (sym n ∙ m));
-          loads = λ _ e. loads ins base stride s origin w (fields .vc) count (r .vlr) done e (movedOf s ins base stride w origin .left) refl;
-          stores = λ _ e. stores ins base stride s origin w (fields .vc) count (r .vlr) done e (movedOf s ins base stride w origin .left) refl;
+          window = λ _. memory.moved-done s ins base stride w origin done .window;
+          inside = λ _. inside ins base stride s origin w done;
         }
-        by false m done fields r = record {
-          ins = ins;
+        by false m done = record {
+          ranged = ranged;
+          on = on;
           says = says;
-          elementwise = λ _ e. (elementwise.leaves ins scalar s fields count e (r .vlr) (r .vpsr), refl);
-          iota = λ _ e. (counting.leaves ins scalar s fields count e (r .vlr), refl);
-          loads = λ n. absurd (true-not-false (sym m ∙ n));
-          stores = λ n. absurd (true-not-false (sym m ∙ n));
+          window = λ n. absurd (true-not-false (sym m ∙ n));
+          inside = λ n. absurd (true-not-false (sym m ∙ n));
         }
 
-    -- a disabled processor accepts nothing
-    on : (e : Bool) (ins : Instruction) → decodedOf e false 0 opcode cntrl ≡ Accepted ins → decodedOf true false 0 opcode cntrl ≡ Accepted ins
-    unfolding decodedOf
-    on true ins says = says
-    on false ins says = absurd (off (opcodeOf opcode) says)
-      where
-        off : (o : Opcode) → byOpcode false false 0 cntrl o ≡ Accepted ins → ⊥
-        off entry.Reserved h = let z : _≡_ {A = ℕ} 0 1 = cc in omega arith
-        off (entry.Accepted w s) h = let z : _≡_ {A = ℕ} 0 1 = cc in omega arith
-
-    decoded : (d : Decoded) → decodedOf (enabled (s .control)) false 0 opcode cntrl ≡ d
-        → isDone (asDecoded d s scalar base stride w origin .answer) ≡ true → After (asDecoded d s scalar base stride w origin)
-    decoded (Refused a) is done = absurd (true-not-false (sym (refusal (enabled (s .control)) false 0 opcode cntrl a is) ∙ done))
-    decoded (Accepted ins) is done = carried ins (on (enabled (s .control)) ins is) done
+    decoded-accepts : (e : Bool) → enabled (s .control) ≡ e → (d : Decoded) → decodedOf e false 0 opcode cntrl ≡ d
+        → isDone (asDecoded d s scalar base stride w origin .answer) ≡ true → (ins : Instruction) × Accepted-as ins
+    decoded-accepts e on (Refused a) is done = absurd (true-not-false (sym (refusal e false 0 opcode cntrl a is) ∙ done))
+    decoded-accepts true on (Accepted ins) is done = (ins, carried-accepts ins on is done)
+    decoded-accepts false on (Accepted ins) is done = absurd (off ins is)
 
   abbrev made : Outcome (State × List ℕ)
   made = asDecoded (decodedOf (enabled (s .control)) false 0 opcode cntrl) s scalar base stride w origin
 
-  -- DEMAND 2: of any instruction that was done
-  pub holds : length (s .elements) ≡ 1024 → isDone (executedOf s opcode cntrl scalar base stride w origin .answer) ≡ true
-      → DemandTwo s opcode cntrl scalar base stride w origin (executedOf s opcode cntrl scalar base stride w origin .left .0)
-      (executedOf s opcode cntrl scalar base stride w origin .left .1)
+  was-accepted : isDone (executed .answer) ≡ true → (ins : Instruction) × Accepted-as ins
   unfolding executedOf
-  holds count done = by (inRange (s .control)) refl done
+  was-accepted = by (inRange (s .control)) refl
     where
-      by : (t : Bool) → inRange (s .control) ≡ t → isDone (pick t made (refusedWindow OutOfRange s w) .answer) ≡ true
-          → After (pick t made (refusedWindow OutOfRange s w))
-      by true r done = decoded count r (decodedOf (enabled (s .control)) false 0 opcode cntrl) refl done
+      by : (t : Bool) → inRange (s .control) ≡ t → isDone (pick t made (refusedWindow OutOfRange s w) .answer) ≡ true → (ins : Instruction) × Accepted-as ins
+      by true r done = decoded-accepts r (enabled (s .control)) refl (decodedOf (enabled (s .control)) false 0 opcode cntrl) refl done
       by false r done = let z : _≡_ {A = ℕ} 0 1 = cc in absurd (omega arith)
+
+  -- ---- what is accepted is done
+  module _ (ins : Instruction) (a : Accepted-as ins) where
+    carries : executed ≡ carriedOut ins s scalar base stride w origin
+    unfolding executedOf
+    carries =
+        pick-true (inRange (s .control)) made (refusedWindow OutOfRange s w) (a .ranged)
+        ∙ ap (λ (e : Bool). asDecoded (decodedOf e false 0 opcode cntrl) s scalar base stride w origin) (a .on)
+        ∙ ap (λ (d : Decoded). asDecoded d s scalar base stride w origin) (a .says)
+
+    -- a memory instruction moves; a register instruction is done
+    moves-memory : isMemory (ins .work) ≡ true → executed ≡ movedOf s ins base stride w origin
+    unfolding carriedOut
+    moves-memory m = carries ∙ pick-true (isMemory (ins .work)) _ (outcome (Done 0) (instructionDone ins scalar s, w)) m
+
+    is-register : isMemory (ins .work) ≡ false → executed ≡ outcome (Done 0) (instructionDone ins scalar s, w)
+    unfolding carriedOut
+    is-register m = carries ∙ pick-false (isMemory (ins .work)) (movedOf s ins base stride w origin) _ m
+
+    moves-done : isMemory (ins .work) ≡ true → movedOf s ins base stride w origin .answer ≡ Done 0
+    moves-done m = does ins base stride s origin w (a .window m) (a .inside m)
+
+    gives : executed .answer ≡ Done 0
+    gives = by (isMemory (ins .work)) refl
+      where
+        by : (t : Bool) → isMemory (ins .work) ≡ t → executed .answer ≡ Done 0
+        by true m = ap (λ (o : Outcome (State × List ℕ)). o .answer) (moves-memory m) ∙ moves-done m
+        by false m = ap (λ (o : Outcome (State × List ℕ)). o .answer) (is-register m)
+
+    module _ (count : length (s .elements) ≡ 1024) where
+      fields : Below ins
+      fields = let p = passed true false 0 opcode cntrl ins (a .says) in record { va = p .va-below; vb = p .vb-below; vc = p .vc-below }
+
+      range : Ranged (s .control)
+      range = ranged (s .control) (a .ranged)
+
+      abbrev Left : Outcome (State × List ℕ) → Type 0
+      Left o = Leaves ins scalar base stride s w origin (o .left .0) (o .left .1)
+
+      leaves : Left executed
+      leaves = by (isMemory (ins .work)) refl
+        where
+          by : (t : Bool) → isMemory (ins .work) ≡ t → Left executed
+          by true m = subst Left (sym (moves-memory m)) record {
+            elementwise = λ n. absurd (true-not-false (sym n ∙ m));
+            iota = λ n. absurd (true-not-false (sym n ∙ m));
+            loads = λ _ e. loads ins base stride s origin w (ap isDone (moves-done m)) (fields .vc) count (range .vlr) e;
+            stores = λ _ e. stores ins base stride s origin w (ap isDone (moves-done m)) e;
+          }
+          by false m = subst Left (sym (is-register m)) record {
+            elementwise = λ _ e. (elementwise.leaves ins scalar s fields count e (range .vlr) (range .vpsr), refl);
+            iota = λ _ e. (counting.leaves ins scalar s fields count e (range .vlr), refl);
+            loads = λ n. absurd (true-not-false (sym m ∙ n));
+            stores = λ n. absurd (true-not-false (sym m ∙ n));
+          }
+
+-- DEMAND 2: of any state, opcode, control word, scalar, base, stride, window and origin
+pub holds : (s : State) (opcode cntrl scalar base stride : ℕ) (w : List ℕ) (origin : ℕ) → DemandTwo s opcode cntrl scalar base stride w origin
+holds s opcode cntrl scalar base stride w origin = record {
+  done = (
+    was-accepted s opcode cntrl scalar base stride w origin,
+    λ x. ap isDone (gives s opcode cntrl scalar base stride w origin (x .0) (x .1)),
+  );
+  gives = gives s opcode cntrl scalar base stride w origin;
+  leaves = λ count ins a. leaves s opcode cntrl scalar base stride w origin ins a count;
+}
 
 -- ---- saving and loading
 pub load-of-save : (s : State) → LoadsAgain s
-load-of-save s held old room count h = loads-again s old room held count h
+load-of-save s held old room count h =
+    (ap (λ (o : Outcome (List ℕ)). o .answer) (saves-done s room (held .ranged) h), loads-again s old room held count h)
 
 pub save-of-load : (file : List ℕ) → SavesAgain file
 save-of-load file bytes old s room count e h = saves-again file old s room bytes count e h

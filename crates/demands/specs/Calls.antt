@@ -1,5 +1,6 @@
--- The public calls as one: what a caller lends, and what each call gives back and leaves of it. Each line is what its call promises
--- (crates/kujawian/src/lib.rt; the last four are crates/listing's and crates/running's), over the definition that the promise cites.
+-- The public calls as one: what a caller lends, and what each call gives back and leaves of it. A line says what its call promises
+-- (crates/kujawian/src/lib.rt; the last four are crates/listing's and crates/running's), over the definition that the promise cites; the control record
+-- stands here as its five numbers, which to C are the same. Decoding and the floating operations alter nothing, and have no line.
 use mathlib.Core.List.{List}
 use Prim.Native.Nat.{ℕ}
 use Rattle.state.specs.declared.Control.{Control}
@@ -17,7 +18,7 @@ use Rattle.kujawian.specs.Face.{controlOf, controlInto, stateOf, left, executed
 use Rattle.listing.specs.Text.{stateListed, fileListed, answerListed}
 use Rattle.running.specs.Runner.{inputPrinted}
 
--- a call, with what it is handed by value
+-- a call, with what it is handed and only reads
 pub data Call : Type 0 where
   readVlr : Call
   readVcr : Call
@@ -42,7 +43,7 @@ pub data Call : Type 0 where
   printRun : (input : List ℕ) → Call
 
 -- what it may alter: the state, elements and five numbers; lent bytes, which are an instruction's window, a file to save into, or room for
--- a text; *kind_read and *bits of a reading
+-- a text; *kind_read and *bits of a reading. What stands beside the number is not among it
 pub record Lent : Type 0 where
   pub elements : List ℕ
   pub control : List ℕ
@@ -53,28 +54,28 @@ pub record Lent : Type 0 where
 abbrev pub lent : List ℕ → List ℕ → List ℕ → ℕ → ℕ → Lent
 lent elements control bytes kindRead bits = record { elements = elements; control = control; bytes = bytes; kindRead = kindRead; bits = bits }
 
--- ---- the number, what stands beside it, and what is lent, after a call that alters
--- nothing
+-- ---- the number, what stands beside it, and what is lent
+-- after a call that alters nothing
 abbrev pub readOff : Lent → Answer → (ℕ × ℕ) × Lent
 readOff l a = (numbers a, l)
 
--- the five numbers
+-- after one that alters the five numbers
 abbrev pub intoControl : Lent → (ℕ × ℕ) × Control → (ℕ × ℕ) × Lent
 intoControl l g = (g .0, lent (l .elements) (controlInto (l .control) (g .1)) (l .bytes) (l .kindRead) (l .bits))
 
--- the state
+-- .. the state
 abbrev pub intoState : Lent → (ℕ × ℕ) × List ℕ × List ℕ → (ℕ × ℕ) × Lent
 intoState l g = (g .0, lent (g .1) (g .2) (l .bytes) (l .kindRead) (l .bits))
 
--- the state and the window
+-- .. the state and the window
 abbrev pub intoWindow : Lent → (ℕ × ℕ) × List ℕ × List ℕ × List ℕ → (ℕ × ℕ) × Lent
 intoWindow l g = (g .0, lent (g .1) (g .2) (g .3) (l .kindRead) (l .bits))
 
--- lent bytes
+-- .. lent bytes
 abbrev pub intoBytes : Lent → Outcome (List ℕ) → (ℕ × ℕ) × Lent
 intoBytes l o = (given o .0, lent (l .elements) (l .control) (given o .1) (l .kindRead) (l .bits))
 
--- a reading
+-- .. *kind_read and *bits
 abbrev pub intoReading : Lent → (ℕ × ℕ) × ℕ × ℕ → (ℕ × ℕ) × Lent
 intoReading l g = (g .0, lent (l .elements) (l .control) (l .bytes) (g .1) (g .2))
 

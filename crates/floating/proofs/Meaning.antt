@@ -11,6 +11,7 @@ use lib.Dec.{eqb, ltb}
 use lib.Pow.{pow-pos}
 use borrow.Author.Tests.{eq-eqb, ne-eqb, lt-ltb, le-ltb, eqb-false, ltb-false}
 use Rattle.numbers.specs.Choice.{pick}
+use Rattle.numbers.proofs.Tests.{pick-true}
 use Rattle.floating.specs.declared.Delivery.{Delivery}
 use Rattle.floating.specs.declared.Delivery.the-variants.{Word, Overflow, Underflow}
 use Rattle.floating.specs.Format.{Format, signOf, exponentOf, fractionOf, significandOf, wordOf}
@@ -22,7 +23,7 @@ use Rattle.floating.proofs.Arithmetic.{double-power}
 use Rattle.floating.proofs.Rounding.{worth, rounded-within, rounded-past, rounded-below, rounded-reaches, rounded-in, rounded-over, rounded-under}
 use Rattle.floating.proofs.Delivering.{delivered-some, judged-word}
 use Rattle.floating.proofs.Sums.{alone-delivered}
-use Rattle.floating.proofs.Packing.{Sound, fraction-lt, exponent-lt, repacked, sign-back, size-back}
+use Rattle.floating.proofs.Packing.{Sound, fraction-lt, exponent-lt, repacked, packed-lt, sign-back, size-back}
 
 at-least : {a b : ℕ} → (a < b → ⊥) → b ≤ a
 at-least n = omega (arith, n)
@@ -73,6 +74,23 @@ module _ (f : Format) (v : Exact) (D : 0 < v .den) (some : v .num ≡ 0 → ⊥)
         by-tests (λ (d : Delivery). d ≡ Overflow) false true (ne-eqb field 0 (λ z. omega arith)) (lt-ltb (f .largest) field past) (λ w. refl),
   )
 
+  -- any other delivers a word
+  pub word-else : (delivered f v ≡ Underflow → ⊥) → (delivered f v ≡ Overflow → ⊥) → (w : ℕ) × (delivered f v ≡ Word w)
+  word-else =
+      by-tests (λ (d : Delivery). (d ≡ Underflow → ⊥) → (d ≡ Overflow → ⊥) → (w : ℕ) × (d ≡ Word w)) (eqb field 0) (ltb (f .largest) field) refl refl
+      (by (eqb field 0) (ltb (f .largest) field))
+    where
+      by : (under over : Bool) (w : ℕ) → (delivery under over w ≡ Underflow → ⊥) → (delivery under over w ≡ Overflow → ⊥)
+          → (x : ℕ) × (delivery under over w ≡ Word x)
+      by true over w a b = absurd (a refl)
+      by false true w a b = absurd (b refl)
+      by false false w a b = (w, refl)
+
+-- zero is all zero bits
+pub zero-word : (f : Format) (v : Exact) → v .num ≡ 0 → delivered f v ≡ Word 0
+unfolding delivered
+zero-word f v e = pick-true (eqb (v .num) 0) (Word 0) _ (eq-eqb (v .num) 0 e)
+
 module _ (f : Format) (S : Sound f) where
   -- ---- a word was in range
   record InRange (s m e w : ℕ) : Type 0 where
@@ -108,15 +126,22 @@ module _ (f : Format) (S : Sound f) where
         doubled : (d : ℕ) → 2 ^ (f .bits) * (d * 2) ≡ d * 2 ^ (f .bits - 1) * 4
         doubled d = ap (λ (z : ℕ). z * (d * 2)) (sym (double-power (f .bits) (S .first))) ∙ simp (mul-assoc, mul-comm, mul-left-comm) (omega arith)
 
-    pub delivered-sign : signOf f w ≡ v .sign
-    delivered-sign =
-        let m = rounded (f .bits) n (v .den) .sig in
-        let b = rounded-in (f .bits) n (v .den) (S .first) D enough in
-        ap (signOf f) (told .packed)
-        ∙ sign-back f S (v .sign) (rounded (f .bits) n (v .den) .exp) (m - 2 ^ (f .bits - 1)) hs (told .below) (less m (b .0) (b .1))
+    abbrev fraction : ℕ
+    fraction = rounded (f .bits) n (v .den) .sig - 2 ^ (f .bits - 1)
+
+    fraction-fits : fraction < 2 ^ (f .bits - 1)
+    fraction-fits =
+        let b = rounded-in (f .bits) n (v .den) (S .first) D enough in less (rounded (f .bits) n (v .den) .sig) (b .0) (b .1)
       where
         less : (m : ℕ) → 2 ^ (f .bits - 1) ≤ m → m < 2 ^ (f .bits) → m - 2 ^ (f .bits - 1) < 2 ^ (f .bits - 1)
         less m lo hi = let twice = double-power (f .bits) (S .first) in omega arith
+
+    pub delivered-sign : signOf f w ≡ v .sign
+    delivered-sign =
+        ap (signOf f) (told .packed) ∙ sign-back f S (v .sign) (rounded (f .bits) n (v .den) .exp) fraction hs (told .below) fraction-fits
+
+    pub delivered-lt : w < 65536 * 65536 ^ (f .further)
+    delivered-lt = rw (told .packed) (packed-lt f S (v .sign) (rounded (f .bits) n (v .den) .exp) fraction hs (told .below) fraction-fits)
 
     -- the word's size is the rounded number
     pub delivered-size : sizeOf f w ≡ worth (rounded (f .bits) n (v .den))

@@ -129,6 +129,17 @@ module _ (f : Format) (S : Sound f) where
         back : (s a b q : ℕ) → a + b < 32768 → s < 2 → (s * 32768 + a + b + q * 65536) / 32768 % 2 ≡ s
         back s a b q h l = omega arith
 
+    -- it fills its 16-bit words and no more
+    pub packed-lt : wordOf f s e x < 65536 * 65536 ^ (f .further)
+    packed-lt =
+        let n = f .further in
+        lt-of-lt-of-le
+        (within s (e * 2 ^ (f .lowest)) (x / 65536 ^ n) (upward n (x % 65536 ^ n)) (65536 ^ n) in-half hs (upward-lt n (x % 65536 ^ n)))
+        (le-of-eq (mul-comm (65536 ^ n) 65536))
+      where
+        within : (s a b q B : ℕ) → a + b < 32768 → s < 2 → q < B → s * 32768 + a + b + q * 65536 < B * 65536
+        within s a b q B h l k = omega arith
+
     -- the word, by its exponent's field
     placed : wordOf f s e x
         ≡ ((upward (f .further) (x % 65536 ^ (f .further)) * 2 + s) * 2 ^ (15 - f .lowest) + e) * 2 ^ (f .lowest) + x / 65536 ^ (f .further)

@@ -1,7 +1,7 @@
 -- The laws of `rounded`, over the number p of digits. Assumes nothing.
 use mathlib.Core.Path.{_≡_, refl, sym, ap, _∙_, subst}
 use Prim.Native.Nat.{ℕ, _+_, _-_, _*_, _/_, _^_, _≤_, _<_}
-use native.Mathlib.Nat.{le-trans, le-of-eq, le-antisymm, sub-eq-zero-of-le, lt-of-le-of-lt, lt-of-lt-of-le, lt-of-not-le, not-le-of-lt, le-div-iff-mul-le}
+use native.Mathlib.Nat.{le-trans, le-of-eq, le-antisymm, lt-of-le-of-lt, lt-of-lt-of-le, lt-of-not-le, not-le-of-lt, le-div-iff-mul-le}
 use native.Mathlib.Nat.{div-lt-iff-lt-mul, div-mul-le-self, lt-div-mul-add, div-div-eq-div-mul, mul-div-mul-right, add-mul-div-right, one-mul, mul-one}
 use native.Mathlib.Nat.{mul-comm, mul-assoc, mul-left-comm, add-mul, mul-le-mul-left, mul-le-mul-right, mul-pos}
 use native.Mathlib.Omega.{arith}
@@ -249,7 +249,8 @@ module _ (p num den l : ℕ) (D : 0 < den) where
           let less : num / den < 2 ^ (p + k) = lt-of-lt-of-le (size-lt (num / den)) (pow-mono (omega arith)) in
           let a : num < 2 ^ (p + k) * den = div-lt-iff-lt-mul D .0 less in
           let b : 2 ^ (p + k) * den * 2 ≤ 2 ^ p * unit =
-          le-trans (le-of-eq (mul-comm (2 ^ (p + k) * den) 2 ∙ sym (mul-assoc 2 (2 ^ (p + k)) den) ∙ ap (λ (z : ℕ). z * den) (pow-two 1 (p + k) (1 + (p + k)) refl)))
+          le-trans
+          (le-of-eq (mul-comm (2 ^ (p + k) * den) 2 ∙ sym (mul-assoc 2 (2 ^ (p + k)) den) ∙ ap (λ (z : ℕ). z * den) (pow-two 1 (p + k) (1 + (p + k)) refl)))
           (le-trans (mul-le-mul-right den (pow-mono (omega (arith, g))))
           (le-of-eq (sym (mul-comm (2 ^ p) unit ∙ shuffle den l p (p + l) refl)))) in
           let c : unit ≤ 2 ^ p * unit = le-trans (le-of-eq (sym (one-mul unit))) (mul-le-mul-right unit (pow-pos p)) in

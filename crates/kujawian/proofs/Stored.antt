@@ -9,7 +9,7 @@ use Rattle.state.specs.declared.answer.Answer.{Answer}
 use Rattle.state.specs.Answer.{numberOf, besideOf, numbers}
 use Rattle.state.specs.State.{State, state}
 use Rattle.touch.specs.Parts.{Queue}
-use Rattle.queue.specs.Claim.{ListClaim}
+use Rattle.queue.specs.Claim.{AcceptedClaim}
 use Rattle.kujawian.specs.Face.{controlOf, controlInto, stateOf}
 
 pub read-back : (l : List ℕ) (c : Control) → length l ≡ 5 → controlOf (controlInto l c) ≡ c
@@ -25,9 +25,9 @@ read-back (v ∷ w ∷ x ∷ y ∷ z ∷ u ∷ l) c e = absurd (omega arith)
 -- The claim of a list, of the record is that of the numbers
 pub list-claim : (q : Queue) (list : List ℕ) (s : State) (a : Answer) (elements l l′ : List ℕ) (c : Control) (number beside : ℕ) → length l ≡ 5
     → (number, beside) ≡ numbers a → l′ ≡ controlInto l c
-    → ListClaim q list s (numberOf a) (besideOf a) (state elements c)
-    → ListClaim q list s number beside (stateOf elements l′)
+    → AcceptedClaim q list s (numberOf a) (besideOf a) (state elements c)
+    → AcceptedClaim q list s number beside (stateOf elements l′)
 list-claim q list s a elements l l′ c number beside five given stored claim =
     let at : controlOf l′ ≡ c = ap controlOf stored ∙ read-back l c five in
-    let told : ListClaim q list s (numberOf a) (besideOf a) (stateOf elements l′) = rw at claim in
-    subst (λ (n : ℕ × ℕ). ListClaim q list s (n .0) (n .1) (stateOf elements l′)) (sym given) told
+    let told : AcceptedClaim q list s (numberOf a) (besideOf a) (stateOf elements l′) = rw at claim in
+    subst (λ (n : ℕ × ℕ). AcceptedClaim q list s (n .0) (n .1) (stateOf elements l′)) (sym given) told

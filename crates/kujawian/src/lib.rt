@@ -18,7 +18,7 @@ ghost use Rattle.control.specs.Moves.{vlrRead, vcrRead, vmrLowRead, vmrHighRead
 ghost use Rattle.execute.specs.Execute.{executedOf};
 ghost use Rattle.touch.specs.Parts.{queue as queueOf};
 ghost use Rattle.queue.specs.Run.{queueRun, walkedRun, orderedRun};
-ghost use Rattle.queue.specs.Claim.{ListClaim};
+ghost use Rattle.queue.specs.Claim.{AcceptedClaim};
 ghost use Rattle.saved.specs.Save.{saving};
 ghost use Rattle.saved.specs.Load.{loading};
 ghost use Rattle.kujawian.specs.Face.{controlOf, stateOf, left, executed, fieldRead};
@@ -184,7 +184,7 @@ pub extern "C" fn kuj_run_order(
 ) -> u32
     ensures straight { λ r. ⌜ ((r, now (beside .exit)), now (elements .exit), now (control .exit)) ≡ left (now (control .entry)) (orderedRun (queueOf (now (opcodes .entry)) (now (cntrls .entry)) (now (scalars .entry))) (now (order .entry)) (stateOf (now (elements .entry)) (now (control .entry)))) ⌝ }
     ensures walked { λ r. ⌜ ((r, now (beside .exit)), now (elements .exit), now (control .exit)) ≡ left (now (control .entry)) (walkedRun (queueOf (now (opcodes .entry)) (now (cntrls .entry)) (now (scalars .entry))) (now (order .entry)) (stateOf (now (elements .entry)) (now (control .entry)))) ⌝ }
-    ensures demand { λ r. ⌜ (length (now (control .entry)) ≡ 5 → ListClaim (queueOf (now (opcodes .entry)) (now (cntrls .entry)) (now (scalars .entry))) (now (order .entry)) (stateOf (now (elements .entry)) (now (control .entry))) r (now (beside .exit)) (stateOf (now (elements .exit)) (now (control .exit)))) ⌝ }
+    ensures demand { λ r. ⌜ (length (now (control .entry)) ≡ 5 → AcceptedClaim (queueOf (now (opcodes .entry)) (now (cntrls .entry)) (now (scalars .entry))) (now (order .entry)) (stateOf (now (elements .entry)) (now (control .entry))) r (now (beside .exit)) (stateOf (now (elements .exit)) (now (control .exit)))) ⌝ }
 {
     let after = queue::run_order(
         elements,

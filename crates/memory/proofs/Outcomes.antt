@@ -1,16 +1,18 @@
--- A memory instruction that is refused leaves the state and the window as they were; one that is done has moved every operated element, each of which
--- is aligned and lies in the window. Assumes nothing.
+-- A memory instruction that is refused leaves the state and the window as they were. It is done exactly where the window is allowed and every operated
+-- element is aligned and lies in it; then it has moved them. Assumes nothing.
 use mathlib.Core.Bool.{Bool, true, false, _&&_}
-use mathlib.Core.Path.{_≡_, refl, ap, _∙_}
+use mathlib.Core.Path.{_≡_, refl, ap, ap₂, _∙_}
 use mathlib.Core.List.{List}
-use Prim.Native.Nat.{ℕ, _+_, _-_, _%_, _≤_, _<_}
+use Prim.Native.Nat.{ℕ, zero, suc, _+_, _-_, _%_, _≤_, _<_}
 use native.Mathlib.Omega.{arith}
 use lib.Dec.{leb, eqb}
 use lib.ListN.{length}
-use borrow.Author.Tests.{leb-true, eqb-true}
+use borrow.Author.Tests.{leb-true, le-leb, eqb-true, eq-eqb}
 use Rattle.numbers.specs.Choice.{pick}
-use Rattle.numbers.proofs.Tests.{and-left, and-right}
+use Rattle.numbers.specs.Rising.{rising}
+use Rattle.numbers.proofs.Tests.{and-left, and-right, and-both}
 use Rattle.state.specs.declared.answer.Answer.the-variants.{WindowRefused}
+use Rattle.state.specs.declared.answer.Answer.the-variants as answer
 use Rattle.state.specs.Answer.{isDone}
 use Rattle.state.specs.Outcome.{afterRefusal, refusedWindow}
 use Rattle.state.specs.State.{State, state}
@@ -23,7 +25,7 @@ use Rattle.memory.specs.declared.Search.{Search}
 use Rattle.memory.specs.declared.Search.the-variants as search
 use Rattle.memory.specs.Works.{isStore, isQuadword, sizeOf}
 use Rattle.memory.specs.Window.{allowed}
-use Rattle.memory.specs.Address.{addressOf, found, testOf, tested}
+use Rattle.memory.specs.Address.{addressOf, found, testOf, saying, orElse, verdict as verdictOf, testStep, tested}
 use Rattle.memory.specs.Move.{movesBy, unlessBad, movedOf}
 use Rattle.memory.proofs.Testing.{all-fine}
 
@@ -47,6 +49,23 @@ fits size origin end address e =
     both true true e = (refl, refl)
     both true false e = let z : _≡_ {A = ℕ} 0 1 = cc in absurd (omega arith)
     both false b e = let z : _≡_ {A = ℕ} 0 1 = cc in absurd (omega arith)
+
+fine : (size origin end address : ℕ) → Fits size origin end address → testOf size origin end address ≡ test.Fine
+unfolding testOf
+fine size origin end address f =
+    ap₂ found (eq-eqb (address % size) 0 (f .aligned))
+    (and-both (leb origin address) (leb (address + size) end) (le-leb origin address (f .from)) (le-leb (address + size) end (f .to)))
+
+-- where no chosen element is bad none is found
+none-bad : (chosen : ℕ → Bool) (tests : ℕ → Test) (n : ℕ) → ((i : ℕ) → i < n → chosen i ≡ true → tests i ≡ test.Fine) → tested chosen tests n ≡ search.Fine
+unfolding rising testStep
+none-bad chosen tests zero all = refl
+none-bad chosen tests (suc n) all =
+    by (chosen n) refl (none-bad chosen tests n (λ i h. all i (omega arith)))
+  where
+    by : (t : Bool) → chosen n ≡ t → tested chosen tests n ≡ search.Fine → orElse (tested chosen tests n) (saying n (verdictOf t (tests n))) ≡ search.Fine
+    by true c e = ap₂ (λ (a : Search) (t : Test). orElse a (saying n t)) e (all n (omega arith) c)
+    by false c e = ap (λ (a : Search). orElse a search.Fine) e
 
 module _ (s : State) (ins : Instruction) (base stride : ℕ) (w : List ℕ) (origin : ℕ) where
   abbrev size : ℕ
@@ -107,3 +126,13 @@ module _ (s : State) (ins : Instruction) (base stride : ℕ) (w : List ℕ) (ori
                 ∙ ap (λ (a : Search). unlessBad a s w moves .left) fine;
           }
       at false e d = let z : _≡_ {A = ℕ} 0 1 = cc in absurd (omega arith)
+
+  -- and so it is done
+  pub done-if : allowed (length w) origin ≡ true
+      → ((i : ℕ) → i < s .control .vlr → operated ins (s .control) i ≡ true → Fits size origin (origin + length w) (address i))
+      → movedOf s ins base stride w origin .answer ≡ answer.Done 0
+  unfolding movedOf
+  done-if window fit =
+      ap (λ (t : Bool). pick t (unlessBad verdict s w moves) (refusedWindow WindowRefused s w) .answer) window
+      ∙ ap (λ (a : Search). unlessBad a s w moves .answer)
+      (none-bad (operated ins (s .control)) tests (s .control .vlr) (λ i h c. fine size origin (origin + length w) (address i) (fit i h c)))

@@ -19,7 +19,7 @@ use Rattle.touch.specs.Parts.{Queue}
 use Rattle.touch.specs.Touch.{stepsOf, mustPrecede}
 use Rattle.queue.specs.Queue.{acceptance}
 use Rattle.queue.specs.Run.{verdictOf, byVerdict, ranThrough, ranBy, walkedRun, orderedRun}
-use Rattle.queue.specs.Claim.{Claim, ListClaim}
+use Rattle.queue.specs.Claim.{Claim, AcceptedClaim}
 use Rattle.queue.proofs.Claim.{permitted-proper, verdict-right, permitted-straight}
 use Rattle.queue.proofs.Calls.{fine-bounded}
 
@@ -40,7 +40,7 @@ walked-straight q list s = at (isDone (acceptance (s .control) q)) refl
 
 -- THE CLAIM: of the call by a list, of any queue that is accepted
 pub claim : (q : Queue) (list : List ℕ) (s : State) (o : Outcome State) → o ≡ walkedRun q list s
-    → ListClaim q list s (numberOf (o .answer)) (besideOf (o .answer)) (o .left)
+    → AcceptedClaim q list s (numberOf (o .answer)) (besideOf (o .answer)) (o .left)
 unfolding walkedRun ranBy ranThrough afterRefusal
 claim q list s o e accepted =
     subst (λ (x : Outcome State). Claim q list s (numberOf (x .answer)) (besideOf (x .answer)) (x .left))
@@ -57,6 +57,7 @@ claim q list s o e accepted =
         (byVerdict s (ranBy q list s) v .left)
     by Permitted iff right same = record {
       permitted = (λ _. iff .0 refl, λ _. refl);
+      done = λ _. refl;
       straight = λ _. same refl;
       walked = λ _. refl;
       refused = λ n. absurd (n refl);
@@ -64,6 +65,7 @@ claim q list s o e accepted =
     }
     by (Refused place) iff right same = record {
       permitted = (λ z. absurd (omega arith), λ p. absurd (never place (iff .1 p)));
+      done = λ z. absurd (omega arith);
       straight = λ z. absurd (omega arith);
       walked = λ z. absurd (omega arith);
       refused = λ _. (refl, right);
@@ -75,5 +77,5 @@ claim q list s o e accepted =
 
 -- so what is walked meets all three promises
 pub three-promises : (q : Queue) (list : List ℕ) (s : State) (o : Outcome State) → o ≡ walkedRun q list s
-    → (o ≡ orderedRun q list s) × ((o ≡ walkedRun q list s) × ListClaim q list s (numberOf (o .answer)) (besideOf (o .answer)) (o .left))
+    → (o ≡ orderedRun q list s) × ((o ≡ walkedRun q list s) × AcceptedClaim q list s (numberOf (o .answer)) (besideOf (o .answer)) (o .left))
 three-promises q list s o e = (e ∙ walked-straight q list s, (e, claim q list s o e))

@@ -1,4 +1,5 @@
--- DEMAND 3, as a single claim about a state, a queue that is accepted there, any list, and what the call by that list gives back and leaves.
+-- Document 01, "Queues and orders". DEMAND 3, as a single claim about a state, a queue that is accepted there, any list, and what
+-- the call by that list gives back and leaves.
 use mathlib.Core.Bool.{true}
 use mathlib.Core.List.{List}
 use mathlib.Core.Logic.{_↔_}
@@ -16,6 +17,7 @@ use Rattle.queue.specs.Run.{ranThrough, ranBy}
 pub record Claim (q : Queue) (list : List ℕ) (s : State) (number beside : ℕ) (after : State) : Type 0 where
   -- 0 exactly when the list has every step once and nothing else, and conflicting pairs in queue order
   pub permitted : (number ≡ 0) ↔ Proper (mustPrecede q (s .control .vlr)) (stepsOf q (s .control .vlr)) list
+  pub done : number ≡ 0 → beside ≡ 0
   -- then the whole state is that of the straight run, and that of the list's steps, done one after the other
   pub straight : number ≡ 0 → after ≡ ranThrough q s
   pub walked : number ≡ 0 → after ≡ ranBy q list s
@@ -24,5 +26,6 @@ pub record Claim (q : Queue) (list : List ℕ) (s : State) (number beside : ℕ)
   -- and then nothing has changed
   pub kept : (number ≡ 0 → ⊥) → after ≡ s
 
-abbrev pub ListClaim : Queue → List ℕ → State → ℕ → ℕ → State → Type 0
-ListClaim q list s number beside after = isDone (acceptance (s .control) q) ≡ true → Claim q list s number beside after
+-- of a queue that is accepted
+abbrev pub AcceptedClaim : Queue → List ℕ → State → ℕ → ℕ → State → Type 0
+AcceptedClaim q list s number beside after = isDone (acceptance (s .control) q) ≡ true → Claim q list s number beside after

@@ -1,5 +1,4 @@
--- The two calls on a queue: straight through, and by a list of steps. "Demand 3": every permitted list ends in the same whole state as the queue run
--- straight through; any other is refused with 9 and the position, and nothing has changed.
+-- Document 01, "Queues and orders": the two calls on a queue, straight through and by a list of steps. specs/Claim.antt says of them what demand 3 asks.
 use mathlib.Core.List.{List}
 use Prim.Native.Nat.{ℕ}
 use Rattle.numbers.specs.Choice.{pick}

@@ -13,7 +13,7 @@ ghost use Rattle.state.specs.Outcome.{outcome};
 ghost use Rattle.state.specs.State.{state};
 ghost use Rattle.touch.specs.Parts.{queue};
 ghost use Rattle.queue.specs.Run.{queueRun, walkedRun, orderedRun};
-ghost use Rattle.queue.specs.Claim.{ListClaim};
+ghost use Rattle.queue.specs.Claim.{AcceptedClaim};
 
 mod acceptance;
 mod runs;
@@ -53,7 +53,7 @@ pub fn run_order(
 ) -> Ended
     ensures straight { λ r. ⌜ outcome (r .answer) (state (now (elements .exit)) (r .control)) ≡ orderedRun (queue (now (opcodes .entry)) (now (cntrls .entry)) (now (scalars .entry))) (now (list .entry)) (state (now (elements .entry)) control) ⌝ }
     ensures walked { λ r. ⌜ outcome (r .answer) (state (now (elements .exit)) (r .control)) ≡ walkedRun (queue (now (opcodes .entry)) (now (cntrls .entry)) (now (scalars .entry))) (now (list .entry)) (state (now (elements .entry)) control) ⌝ }
-    ensures demand { λ r. ⌜ ListClaim (queue (now (opcodes .entry)) (now (cntrls .entry)) (now (scalars .entry))) (now (list .entry)) (state (now (elements .entry)) control) (numberOf (r .answer)) (besideOf (r .answer)) (state (now (elements .exit)) (r .control)) ⌝ }
+    ensures demand { λ r. ⌜ AcceptedClaim (queue (now (opcodes .entry)) (now (cntrls .entry)) (now (scalars .entry))) (now (list .entry)) (state (now (elements .entry)) control) (numberOf (r .answer)) (besideOf (r .answer)) (state (now (elements .exit)) (r .control)) ⌝ }
 {
     let accepted = acceptance::accept(control, opcodes, cntrls, scalars);
     let given = accepted.answer;
