@@ -26,7 +26,7 @@ use Rattle.panel.specs.Panel.{isField, fieldAnswer, kindShown, bitsShown}
 use Rattle.listing.specs.Text.{stateListed, fileListed, answerListed}
 use Rattle.running.specs.Runner.{inputPrinted}
 use Rattle.kujawian.specs.Face.{controlOf, controlInto, stateOf, left, executed, fieldRead}
-use Rattle.kujawian.proofs.Refusals.{stored-back}
+use Rattle.kujawian.proofs.Stored.{stored-back}
 use Rattle.demands.specs.Calls.{Call, Lent, lent, readOff, intoControl, intoState, intoWindow, intoBytes, intoReading, called}
 use Rattle.demands.specs.Calls.{readVlr, readVcr, readVmrLow, readVmrHigh, readVaer, readVpsr, writeVlr, writeVcr, writeVmrLow, writeVmrHigh, writeVpsr}
 use Rattle.demands.specs.Calls.{execute, run, runOrder, save, load, reading, listState, listFile, listAnswer, printRun}

@@ -1,4 +1,4 @@
--- What a rounded result means, for F: the theorem `F-rounds`. Assumes nothing.
+-- What a rounded result means, for F: the theorems `F-rounds` and `F-own`. Assumes nothing.
 use mathlib.Core.Path.{_≡_}
 use Prim.Native.Nat.{ℕ, _<_}
 use Rattle.floating.specs.declared.Delivery.the-variants.{Word}
@@ -7,7 +7,8 @@ use Rattle.floating.specs.Exact.{Exact}
 use Rattle.floating.specs.Delivered.{delivered}
 use Rattle.floating.proofs.Packing.{Sound, F-sound}
 use Rattle.floating.proofs.Meaning.{underflow-means, overflow-means, word-else, zero-word, delivered-sign, delivered-lt, delivered-over, delivered-under}
-use Rattle.demands.specs.Rounds.{Nearest, Rounds}
+use Rattle.floating.proofs.Meaning.{delivered-own}
+use Rattle.demands.specs.Rounds.{Nearest, Rounds, OwnWord}
 
 module _ (f : Format) (S : Sound f) (v : Exact) where
   nearest : v .sign < 2 → 0 < v .den → (v .num ≡ 0 → ⊥) → (w : ℕ) → delivered f v ≡ Word w → Nearest f v w
@@ -32,3 +33,6 @@ module _ (f : Format) (S : Sound f) (v : Exact) where
 
 pub F-rounds : (v : Exact) → Rounds F v
 F-rounds = rounds F F-sound
+
+pub F-own : (w : ℕ) → OwnWord F w
+F-own = delivered-own F F-sound

@@ -4,8 +4,8 @@ use mathlib.Core.Logic.{_↔_}
 use mathlib.Core.Path.{_≡_}
 use Prim.Native.Nat.{ℕ, _+_, _*_, _^_, _≤_, _<_}
 use Rattle.floating.specs.declared.Delivery.the-variants.{Word, Overflow, Underflow}
-use Rattle.floating.specs.Format.{Format, signOf}
-use Rattle.floating.specs.Exact.{Exact, sizeOf}
+use Rattle.floating.specs.Format.{Format, signOf, exponentOf}
+use Rattle.floating.specs.Exact.{Exact, sizeOf, valueOf}
 use Rattle.floating.specs.Round.{places}
 use Rattle.floating.specs.Delivered.{delivered}
 
@@ -38,3 +38,7 @@ pub record RoundsSome (f : Format) (v : Exact) : Type 0 where
 pub record Rounds (f : Format) (v : Exact) : Type 0 where
   pub zero : v .num ≡ 0 → delivered f v ≡ Word 0
   pub some : v .sign < 2 → 0 < v .den → (v .num ≡ 0 → ⊥) → RoundsSome f v
+
+-- and a number's own word is what its value delivers
+abbrev pub OwnWord : Format → ℕ → Type 0
+OwnWord f w = w < 65536 * 65536 ^ (f .further) → (exponentOf f w ≡ 0 → ⊥) → delivered f (valueOf f w) ≡ Word w

@@ -1,5 +1,4 @@
--- The numbers of a reading, what a refused call leaves, the record read back from its numbers, and the walk of a control write.
+-- The numbers of a reading, five numbers as a control record, and the walk of a control write.
 pub mod Fields
-pub mod Refusals
 pub mod Stored
 pub mod Writes

@@ -1,9 +1,10 @@
--- A control record stored in five numbers is read back, so that what a call promises of the record holds of the numbers. Assumes nothing.
+-- Five numbers as a control record: what is read and stored again, and what is stored and read. Assumes nothing.
 use mathlib.Core.Path.{_≡_, refl, sym, ap, subst, _∙_}
 use mathlib.Core.List.{List, [], _∷_}
 use Prim.Native.Nat.{ℕ}
 use native.Mathlib.Omega.{arith}
 use lib.ListN.{length}
+use lib.Seq.{set-getD}
 use Rattle.state.specs.declared.Control.{Control}
 use Rattle.state.specs.declared.answer.Answer.{Answer}
 use Rattle.state.specs.Answer.{numberOf, besideOf, numbers}
@@ -12,6 +13,12 @@ use Rattle.touch.specs.Parts.{Queue}
 use Rattle.queue.specs.Claim.{AcceptedClaim}
 use Rattle.kujawian.specs.Face.{controlOf, controlInto, stateOf}
 
+-- storing what was read changes nothing: after a refusal the record is the one handed over
+pub stored-back : (l : List ℕ) → controlInto l (controlOf l) ≡ l
+unfolding controlOf controlInto
+stored-back l = simp set-getD
+
+-- what is stored in five numbers is read back
 pub read-back : (l : List ℕ) (c : Control) → length l ≡ 5 → controlOf (controlInto l c) ≡ c
 unfolding controlOf controlInto
 read-back (v ∷ w ∷ x ∷ y ∷ z ∷ []) c e = refl
@@ -22,7 +29,7 @@ read-back (v ∷ w ∷ x ∷ []) c e = absurd (omega arith)
 read-back (v ∷ w ∷ x ∷ y ∷ []) c e = absurd (omega arith)
 read-back (v ∷ w ∷ x ∷ y ∷ z ∷ u ∷ l) c e = absurd (omega arith)
 
--- The claim of a list, of the record is that of the numbers
+-- so the claim of a list, of the record, is that of the numbers
 pub list-claim : (q : Queue) (list : List ℕ) (s : State) (a : Answer) (elements l l′ : List ℕ) (c : Control) (number beside : ℕ) → length l ≡ 5
     → (number, beside) ≡ numbers a → l′ ≡ controlInto l c
     → AcceptedClaim q list s (numberOf a) (besideOf a) (state elements c)
