@@ -1,2 +1,6 @@
--- The settled examples, and those for the requests.
-pub mod Examples
+-- The table of examples, and the tests of the opcode table.
+pub mod Rows
+pub mod Settled
+pub mod Works
+pub mod Table
+pub mod OpcodeTable

@@ -1,0 +1,57 @@
+-- THE TABLE of examples, and the one statement over all of its rows, by computation. Assumes nothing.
+use mathlib.Core.Path.{_≡_, refl}
+use mathlib.Core.List.{List, _++_}
+use lib.Ieee.{size}
+use Rattle.numbers.specs.Signed.{signed, low32, overflows, negative, isZero}
+use Rattle.numbers.specs.Relation.{relationHolds}
+use Rattle.numbers.specs.Rising.{rising}
+use Rattle.state.specs.State.{inRange}
+use Rattle.state.specs.Outcome.{afterRefusal}
+use Rattle.control.specs.Moves.{readWhen, writeWhen, vpsrTaken}
+use Rattle.opcodes.specs.Works.{rowOf}
+use Rattle.opcodes.specs.Opcodes.{opcodeOf, workAt, rowAt}
+use Rattle.opcodes.specs.ControlWord.{refused, controlWordOf}
+use Rattle.opcodes.specs.Decoding.{decodedOf}
+use Rattle.opcodes.specs.Masking.{operated}
+use Rattle.longword.specs.Longword.{sumOf, differenceOf, productOf}
+use Rattle.floating.specs.Round.{rounded}
+use Rattle.floating.specs.Delivered.{delivered}
+use Rattle.element.specs.Receives.{resultOf}
+use Rattle.machine.specs.Run.{joined, ended}
+use Rattle.machine.specs.Step.{received, notes, written, worked, elementStep}
+use Rattle.machine.specs.Iota.{matching, turned, walked, iotaStep}
+use Rattle.machine.specs.Instruction.{stepOf, stepsBelow, wholeOf, instructionDone}
+use Rattle.memory.specs.Window.{allowed}
+use Rattle.memory.specs.Address.{testOf, testStep}
+use Rattle.memory.specs.Move.{loadStep, storeStep, movedOf}
+use Rattle.execute.specs.Execute.{carriedOut, executedOf}
+use Rattle.order.specs.Steps.{passing}
+use Rattle.order.specs.Order.{has, each, ready, ok, checkFrom, check}
+use Rattle.touch.specs.Parts.{instructionAt}
+use Rattle.touch.specs.Touch.{isStep, stepsOf, below, reads, writes, meet, conflict, mustPrecede}
+use Rattle.queue.specs.Queue.{atPosition, positions, acceptance, straight}
+use Rattle.queue.specs.Run.{ranThrough, verdictOf, queueRun, orderedRun}
+use Rattle.saved.specs.Save.{saving}
+use Rattle.panel.specs.Panel.{fieldAnswer}
+use Rattle.kujawian.specs.Face.{controlOf, controlInto, left, executed, fieldRead}
+use Rattle.demands.specs.Calls.{called}
+use Rattle.examples.proofs.Rows.{Row, computed, wanted}
+use Rattle.examples.proofs.Settled.{numbered, divided, rounding}
+use Rattle.examples.proofs.Works.{opcodes, words}
+
+abbrev pub table : List Row
+table =
+    -- document 01's twelve, and those of the requests Q-1 and Q-2
+    numbered ++ divided ++ rounding
+    -- ---- further rows, one for each rule that no example guards
+    ++ opcodes ++ words
+
+pub table-holds : computed table ≡ wanted table
+unfolding called controlOf controlInto left executed fieldRead readWhen writeWhen vpsrTaken fieldAnswer saving inRange afterRefusal
+    executedOf carriedOut opcodeOf decodedOf refused controlWordOf rowAt rowOf workAt
+    instructionDone wholeOf stepsBelow stepOf elementStep operated worked received resultOf written joined ended notes iotaStep walked turned matching
+    sumOf differenceOf productOf signed low32 overflows negative isZero relationHolds delivered rounded size
+    movedOf allowed rising testOf testStep loadStep storeStep
+    queueRun orderedRun acceptance positions atPosition ranThrough straight instructionAt
+    verdictOf check checkFrom ok ready each has mustPrecede conflict meet reads writes below stepsOf passing isStep
+table-holds = refl
