@@ -2,5 +2,8 @@
 pub mod Rows
 pub mod Settled
 pub mod Works
+pub mod Elements
+pub mod Memory
+pub mod Controls
 pub mod Table
 pub mod OpcodeTable

@@ -38,6 +38,9 @@ use Rattle.demands.specs.Calls.{called}
 use Rattle.examples.proofs.Rows.{Row, computed, wanted}
 use Rattle.examples.proofs.Settled.{numbered, divided, rounding}
 use Rattle.examples.proofs.Works.{opcodes, words}
+use Rattle.examples.proofs.Elements.{masks, iotas, relations, results, exceptions}
+use Rattle.examples.proofs.Memory.{windows, elements}
+use Rattle.examples.proofs.Controls.{moves, settings, ranges}
 
 abbrev pub table : List Row
 table =
@@ -45,6 +48,9 @@ table =
     numbered ++ divided ++ rounding
     -- ---- further rows, one for each rule that no example guards
     ++ opcodes ++ words
+    ++ masks ++ iotas ++ relations ++ results ++ exceptions
+    ++ windows ++ elements
+    ++ moves ++ settings ++ ranges
 
 pub table-holds : computed table ≡ wanted table
 unfolding called controlOf controlInto left executed fieldRead readWhen writeWhen vpsrTaken fieldAnswer saving inRange afterRefusal
