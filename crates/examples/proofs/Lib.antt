@@ -5,5 +5,8 @@ pub mod Works
 pub mod Elements
 pub mod Memory
 pub mod Controls
+pub mod Numbers
+pub mod Queues
+pub mod Readings
 pub mod Table
 pub mod OpcodeTable

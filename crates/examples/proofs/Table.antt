@@ -32,6 +32,7 @@ use Rattle.touch.specs.Touch.{isStep, stepsOf, below, reads, writes, meet, conf
 use Rattle.queue.specs.Queue.{atPosition, positions, acceptance, straight}
 use Rattle.queue.specs.Run.{ranThrough, verdictOf, queueRun, orderedRun}
 use Rattle.saved.specs.Save.{saving}
+use Rattle.saved.specs.Load.{contentsInRange, goodPart, goodRecord, leading, accepted, loading}
 use Rattle.panel.specs.Panel.{fieldAnswer}
 use Rattle.kujawian.specs.Face.{controlOf, controlInto, left, executed, fieldRead}
 use Rattle.demands.specs.Calls.{called}
@@ -41,6 +42,9 @@ use Rattle.examples.proofs.Works.{opcodes, words}
 use Rattle.examples.proofs.Elements.{masks, iotas, relations, results, exceptions}
 use Rattle.examples.proofs.Memory.{windows, elements}
 use Rattle.examples.proofs.Controls.{moves, settings, ranges}
+use Rattle.examples.proofs.Numbers.{numbers, orders}
+use Rattle.examples.proofs.Queues.{queues, lists, touches}
+use Rattle.examples.proofs.Readings.{readings, files}
 
 abbrev pub table : List Row
 table =
@@ -51,9 +55,13 @@ table =
     ++ masks ++ iotas ++ relations ++ results ++ exceptions
     ++ windows ++ elements
     ++ moves ++ settings ++ ranges
+    ++ numbers ++ orders
+    ++ queues ++ lists ++ touches
+    ++ readings ++ files
 
 pub table-holds : computed table ≡ wanted table
-unfolding called controlOf controlInto left executed fieldRead readWhen writeWhen vpsrTaken fieldAnswer saving inRange afterRefusal
+unfolding called controlOf controlInto left executed fieldRead readWhen writeWhen vpsrTaken fieldAnswer inRange afterRefusal
+    saving loading accepted leading goodRecord goodPart contentsInRange
     executedOf carriedOut opcodeOf decodedOf refused controlWordOf rowAt rowOf workAt
     instructionDone wholeOf stepsBelow stepOf elementStep operated worked received resultOf written joined ended notes iotaStep walked turned matching
     sumOf differenceOf productOf signed low32 overflows negative isZero relationHolds delivered rounded size
