@@ -37,7 +37,7 @@ numbers =
     ∷ refuses (run (fourth 0x9D 0)) (state [] (enabled 1)) 7 3
     ∷ refuses (run (fourth 0x9E 0)) (state [] (enabled 1)) 7 3
     ∷ refuses (run (fourth 0x9F 0)) (state [] (enabled 1)) 7 3
-    -- 8 more than 16 in a queue (a row of its own, above), or its parts of unequal length
+    -- 8 more than 16 in a queue (a row of the queues'), or its parts of unequal length
     ∷ refuses (run (queue (0x80 ∷ []) [] (0 ∷ []))) (state [] (enabled 1)) 8 0
     ∷ refuses (run (queue (0x80 ∷ []) (0 ∷ []) [])) (state [] (enabled 1)) 8 0
     ∷ refuses (run (queue [] (0 ∷ []) [])) (state [] (enabled 1)) 8 0

@@ -1,9 +1,10 @@
 -- Further rows, document 01, "Saved state and readings".
-use mathlib.Core.List.{List, [], _∷_}
+use mathlib.Core.List.{List, [], _∷_, _++_}
 use Prim.Native.Nat.{ℕ}
 use lib.ListN.{replicate}
-use Rattle.demands.specs.Calls.{Lent, lent, reading, save, load}
-use Rattle.examples.proofs.Rows.{Row, v, holding, enabled, state, stateAnd, done, refuses}
+use Rattle.state.specs.declared.answer.Answer.the-variants.{OrderRefused}
+use Rattle.demands.specs.Calls.{Lent, lent, reading, save, load, listState, listFile, listAnswer, printRun}
+use Rattle.examples.proofs.Rows.{Row, puts, v, holding, enabled, control, state, stateAnd, done, refuses}
 
 -- V15[63] holds a word, and *kind_read and *bits are these
 abbrev word : (w kind bits : ℕ) → Lent
@@ -64,4 +65,52 @@ files =
     -- "Saving into less than 16,464 bytes gets 10 with the first record that has no room, and writes nothing"
     ∷ refuses save (stateAnd (v 0 0 4 ∷ []) (enabled 1) []) 10 0
     ∷ refuses save (stateAnd (v 0 0 4 ∷ []) (enabled 1) (replicate 16463 7)) 10 1028
+    ∷ []
+
+-- ---- texts, in ASCII: a call that prints gives their length, and leaves them at the start of the lent bytes, here 7s
+-- n digits 0
+abbrev zeros : ℕ → List ℕ
+zeros n = replicate n 48
+
+-- document 01's listing, of V5[3] = 7, VLR = 4 and VEN = 1: V05[03] 0000000000000007, VLR 4, VMR 0000000000000000, VCR 0, VAER 00000000, VPSR 00000001
+abbrev listing : List ℕ
+listing =
+    (86 ∷ 48 ∷ 53 ∷ 91 ∷ 48 ∷ 51 ∷ 93 ∷ 32 ∷ []) ++ zeros 15 ++ (55 ∷ 10 ∷ [])
+    ++ (86 ∷ 76 ∷ 82 ∷ 32 ∷ 52 ∷ 10 ∷ [])
+    ++ (86 ∷ 77 ∷ 82 ∷ 32 ∷ []) ++ zeros 16 ++ (10 ∷ [])
+    ++ (86 ∷ 67 ∷ 82 ∷ 32 ∷ 48 ∷ 10 ∷ [])
+    ++ (86 ∷ 65 ∷ 69 ∷ 82 ∷ 32 ∷ []) ++ zeros 8 ++ (10 ∷ [])
+    ++ (86 ∷ 80 ∷ 83 ∷ 82 ∷ 32 ∷ []) ++ zeros 7 ++ (49 ∷ 10 ∷ [])
+
+-- that of V15[63] = 123456789ABCDEF0, VLR = 64, VMR = FEDCBA9876543210, VCR = 10, VAER = FFFF002F and VPSR = 81
+abbrev listing' : List ℕ
+listing' =
+    (86 ∷ 49 ∷ 53 ∷ 91 ∷ 54 ∷ 51 ∷ 93 ∷ 32 ∷ 49 ∷ 50 ∷ 51 ∷ 52 ∷ 53 ∷ 54 ∷ 55 ∷ 56 ∷ 57 ∷ 65 ∷ 66 ∷ 67 ∷ 68 ∷ 69 ∷ 70 ∷ 48 ∷ 10 ∷ [])
+    ++ (86 ∷ 76 ∷ 82 ∷ 32 ∷ 54 ∷ 52 ∷ 10 ∷ [])
+    ++ (86 ∷ 77 ∷ 82 ∷ 32 ∷ 70 ∷ 69 ∷ 68 ∷ 67 ∷ 66 ∷ 65 ∷ 57 ∷ 56 ∷ 55 ∷ 54 ∷ 53 ∷ 52 ∷ 51 ∷ 50 ∷ 49 ∷ 48 ∷ 10 ∷ [])
+    ++ (86 ∷ 67 ∷ 82 ∷ 32 ∷ 49 ∷ 48 ∷ 10 ∷ [])
+    ++ (86 ∷ 65 ∷ 69 ∷ 82 ∷ 32 ∷ 70 ∷ 70 ∷ 70 ∷ 70 ∷ 48 ∷ 48 ∷ 50 ∷ 70 ∷ 10 ∷ [])
+    ++ (86 ∷ 80 ∷ 83 ∷ 82 ∷ 32 ∷ 48 ∷ 48 ∷ 48 ∷ 48 ∷ 48 ∷ 48 ∷ 56 ∷ 49 ∷ 10 ∷ [])
+
+-- room of so many bytes with a text at its start, and the state of the first listing
+abbrev room : List ℕ → ℕ → Lent
+room text rest = stateAnd (v 5 3 7 ∷ []) (enabled 4) (text ++ replicate rest 7)
+
+abbrev pub texts : List Row
+texts =
+    -- the listing of a state, 86 bytes of 25,663
+    puts listState (room [] 25663) (0, 86) (room listing 25577)
+    -- "Hex digits are capitals; register and element are two decimal digits"
+    ∷ puts listState (stateAnd (v 15 63 0x1234_5678_9ABC_DEF0 ∷ []) (control 64 0xFEDC_BA98_7654_3210 10 0xFFFF_002F 0x81) (replicate 25663 7)) (0, 88)
+    (stateAnd (v 15 63 0x1234_5678_9ABC_DEF0 ∷ []) (control 64 0xFEDC_BA98_7654_3210 10 0xFFFF_002F 0x81) (listing' ++ replicate 25575 7))
+    -- "A refused file prints only `bad record ` and the number": 0; a run of it, 10 0
+    ∷ puts (listFile []) (room [] 25663) (0, 13) (room (98 ∷ 97 ∷ 100 ∷ 32 ∷ 114 ∷ 101 ∷ 99 ∷ 111 ∷ 114 ∷ 100 ∷ 32 ∷ 48 ∷ 10 ∷ []) 25650)
+    ∷ puts (printRun []) (room [] 25705) (0, 5) (room (49 ∷ 48 ∷ 32 ∷ 48 ∷ 10 ∷ []) 25700)
+    -- the line of an answer, 9 128
+    ∷ puts (listAnswer (OrderRefused 128)) (room [] 42) (0, 6) (room (57 ∷ 32 ∷ 49 ∷ 50 ∷ 56 ∷ 10 ∷ []) 36)
+    -- with less room than every text of its kind takes, 10, and nothing is written
+    ∷ refuses listState (room [] 25662) 10 0
+    ∷ refuses (listFile []) (room [] 25662) 10 0
+    ∷ refuses (printRun []) (room [] 25704) 10 0
+    ∷ refuses (listAnswer (OrderRefused 128)) (room [] 41) 10 0
     ∷ []

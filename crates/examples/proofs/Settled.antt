@@ -5,11 +5,16 @@ use Prim.Native.Nat.{ℕ}
 use lib.ListN.{replicate}
 use Rattle.touch.specs.Parts.{Queue}
 use Rattle.demands.specs.Calls.{Lent, lent, runOrder}
-use Rattle.examples.proofs.Rows.{Row, v, enabled, masked, control, stopped, state, stateAnd, done, refuses, operate, move, becomes, gives, records, two}
+use Rattle.examples.proofs.Rows.{Row, Cell, v, enabled, masked, control, stopped, state, stateAnd}
+use Rattle.examples.proofs.Rows.{done, refuses, operate, move, becomes, gives, records, two}
 
 -- 1's registers: V2 = 7FFFFFFF, 4, and V5 of these two and then 9
 abbrev with-5 : (a b : ℕ) → List ℕ → Lent
 with-5 a b numbers = lent (replicate 128 0 ++ (0x7FFFFFFF ∷ 4 ∷ replicate 190 0) ++ (a ∷ b ∷ replicate 62 9) ++ replicate 640 0) numbers [] 0 0
+
+-- 11's window of four bytes, and a mask that chooses element 1
+abbrev with-11 : List Cell → Lent
+with-11 cells = stateAnd cells (masked 2 2) (1 ∷ 2 ∷ 3 ∷ 4 ∷ [])
 
 -- 12's queue, V3 = V1+V2 and then V1 = V4+V5, and V1 and V3 beside V4 = 3, 4
 abbrev queue-12 : Queue
@@ -48,7 +53,7 @@ numbered =
     ∷ done (operate 0xED 0x6003 8) (state [] (masked 4 0xB)) (state (v 3 1 8 ∷ v 3 2 24 ∷ []) (control 4 0xB 3 0 1))
     ∷ done (operate 0xED 0x2003 8) (state [] (masked 4 0xB)) (state (v 3 0 16 ∷ []) (control 4 0xB 1 0 1))
     -- 11. base FFFFFFFC, stride 4: element 1 is at 0. A longword load of element 1 alone, from a window at 0
-    ∷ done (move 0x34 0xE003 0xFFFFFFFC 4 0) (stateAnd [] (masked 2 2) (1 ∷ 2 ∷ 3 ∷ 4 ∷ [])) (stateAnd (v 3 1 0x04030201 ∷ []) (masked 2 2) (1 ∷ 2 ∷ 3 ∷ 4 ∷ []))
+    ∷ done (move 0x34 0xE003 0xFFFFFFFC 4 0) (with-11 []) (with-11 (v 3 1 0x04030201 ∷ []))
     -- 12. VLR 2, V1 = 1, 2, V4 = 3, 4, longword queue V3 = V1+V2, then V1 = V4+V5: list 0, 64, 1, 65 ends with V3 = 1, 2 and V1 = 3, 4; 64, 0, 1, 65
     -- gets 9 at 0
     ∷ done (runOrder queue-12 (0 ∷ 64 ∷ 1 ∷ 65 ∷ [])) (with-12 1 2 0 0) (with-12 3 4 1 2)

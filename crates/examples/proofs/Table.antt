@@ -33,6 +33,9 @@ use Rattle.queue.specs.Queue.{atPosition, positions, acceptance, straight}
 use Rattle.queue.specs.Run.{ranThrough, verdictOf, queueRun, orderedRun}
 use Rattle.saved.specs.Save.{saving}
 use Rattle.saved.specs.Load.{contentsInRange, goodPart, goodRecord, leading, accepted, loading}
+use Rattle.listing.specs.Text.{digitOf, digits, decimals, widthOf, line, elementLine, elementText, elementLines, controlLines, listing, badLine, answerLine}
+use Rattle.listing.specs.Text.{listed, printed, stateListed}
+use Rattle.running.specs.Runner.{inputRun, blank, textOf}
 use Rattle.panel.specs.Panel.{fieldAnswer}
 use Rattle.kujawian.specs.Face.{controlOf, controlInto, left, executed, fieldRead}
 use Rattle.demands.specs.Calls.{called}
@@ -44,24 +47,33 @@ use Rattle.examples.proofs.Memory.{windows, elements}
 use Rattle.examples.proofs.Controls.{moves, settings, ranges}
 use Rattle.examples.proofs.Numbers.{numbers, orders}
 use Rattle.examples.proofs.Queues.{queues, lists, touches}
-use Rattle.examples.proofs.Readings.{readings, files}
+use Rattle.examples.proofs.Readings.{readings, files, texts}
 
 abbrev pub table : List Row
 table =
-    -- document 01's twelve, and those of the requests Q-1 and Q-2
+    -- document 01, "Settled examples", 1 to 12; document 02, Q-1 and Q-2
     numbered ++ divided ++ rounding
-    -- ---- further rows, one for each rule that no example guards
+    -- ---- FURTHER ROWS, for rules that no example guards
+    -- "Opcodes": each of the 40, with a result of its own; reserved opcodes and control words
     ++ opcodes ++ words
+    -- "What an element receives"
     ++ masks ++ iotas ++ relations ++ results ++ exceptions
+    -- "Memory"
     ++ windows ++ elements
+    -- "Control moves", each setting of VPSR, and "The state"
     ++ moves ++ settings ++ ranges
+    -- "Numbers given back": each of 0 to 13, and the order of the tests
     ++ numbers ++ orders
+    -- "Queues and orders": queues, faults of a list, and each line of what a step touches
     ++ queues ++ lists ++ touches
-    ++ readings ++ files
+    -- "Saved state and readings"
+    ++ readings ++ files ++ texts
 
 pub table-holds : computed table ≡ wanted table
 unfolding called controlOf controlInto left executed fieldRead readWhen writeWhen vpsrTaken fieldAnswer inRange afterRefusal
     saving loading accepted leading goodRecord goodPart contentsInRange
+    stateListed listed printed listing elementLines elementText elementLine controlLines line digits digitOf widthOf decimals badLine answerLine
+    inputRun blank textOf
     executedOf carriedOut opcodeOf decodedOf refused controlWordOf rowAt rowOf workAt
     instructionDone wholeOf stepsBelow stepOf elementStep operated worked received resultOf written joined ended notes iotaStep walked turned matching
     sumOf differenceOf productOf signed low32 overflows negative isZero relationHolds delivered rounded size

@@ -6,4 +6,3 @@ pub mod Testing
 pub mod Moving
 pub mod Relative
 pub mod Accessing
-pub mod Examples
