@@ -2,9 +2,8 @@
 -- holds where what is computed from the definitions that the promises cite is what is wanted.
 use mathlib.Core.Bool.{Bool}
 use mathlib.Core.List.{List, [], _∷_}
-use Prim.Native.Nat.{ℕ}
+use Prim.Native.Nat.{ℕ, _+_, _*_}
 use lib.ListN.{replicate, set}
-use Rattle.state.specs.State.{placeOf}
 use Rattle.memory.specs.Window.{allowed}
 use Rattle.touch.specs.Parts.{Queue}
 use Rattle.demands.specs.Calls.{Call, Lent, lent, called, execute}
@@ -37,7 +36,7 @@ pub record Cell : Type 0 where
   pub value : ℕ
 
 abbrev pub v : (r e x : ℕ) → Cell
-v r e x = record { place = placeOf r e; value = x }
+v r e x = record { place = r * 64 + e; value = x }
 
 abbrev pub holding : List Cell → List ℕ
 holding [] = replicate 1024 0

@@ -23,7 +23,7 @@ queue-12 = two 0x80 0x2123 0x80 0x2451
 abbrev with-12 : (a b c d : ℕ) → Lent
 with-12 a b c d = state (v 1 0 a ∷ v 1 1 b ∷ v 3 0 c ∷ v 3 1 d ∷ v 4 0 3 ∷ v 4 1 4 ∷ []) (enabled 2)
 
-abbrev pub numbered : List Row
+abbrev numbered : List Row
 numbered =
     -- 1. 81, 2025, scalar 1, VLR 2, V2 = 7FFFFFFF, 4, V5 all 9: V5 = 80000000, 5, then 9; VAER 00200020; VPSR 00000080
     done (operate 0x81 0x2025 1) (with-5 9 9 (enabled 2)) (with-5 0x80000000 5 (stopped 2 0x00200020))
@@ -61,7 +61,7 @@ numbered =
     ∷ []
 
 -- document 02, Q-1: F divide, V1[0] by V2[0]
-abbrev pub divided : List Row
+abbrev divided : List Row
 divided =
     -- 1 by 3 is AAAAAA.AAA.. in 24 digits: rounded up
     gives 0xAC 0x2123 0x4080 0x4140 0xAAAB3FAA
@@ -90,7 +90,7 @@ divided =
     ∷ []
 
 -- document 02, Q-2: underflow is judged after rounding, V1[0] times V2[0]
-abbrev pub rounding : List Row
+abbrev rounding : List Row
 rounding =
     -- the example: FFFFFE times 800001, 2 less than 2 ^ 47, rounds up to the smallest number; without EXC too
     gives 0xA4 0x2123 0xFFFE407F 0x00010080 0x00000080
@@ -108,3 +108,6 @@ rounding =
     -- one exponent further down the same carry does not reach it
     ∷ records 0xA4 0x2123 0xFFFE3FFF 0x00010080 0x8001 0x00080001
     ∷ []
+
+abbrev pub settled : List Row
+settled = numbered ++ divided ++ rounding
