@@ -1,7 +1,8 @@
 -- Further rows, document 01, "What an element receives": masks, merge, IOTA, compares, and the bit of VAER of each exception.
 use mathlib.Core.List.{List, [], _∷_, _++_}
 use Prim.Native.Nat.{ℕ}
-use Rattle.demands.specs.Calls.{Lent}
+use lib.ListN.{replicate}
+use Rattle.demands.specs.Calls.{Lent, lent}
 use Rattle.examples.proofs.Rows.{Row, Cell, v, enabled, masked, control, stopped, state, done, operate, three, becomes, gives, records}
 
 -- V1 = 1, 2, 3 and V2 = 10, 20, 30, in hex, and V3
@@ -23,6 +24,21 @@ masks =
     ∷ done (operate 0xEE 0x0123 0) (with-3 7 7 7 (masked 2 1)) (with-3 0x10 2 7 (masked 2 1))
     ∷ done (operate 0xEE 0xC123 0) (with-3 7 7 7 (masked 2 1)) (with-3 1 0x20 7 (masked 2 1))
     ∷ done (operate 0xEF 0x4123 0x55) (with-3 7 7 7 (masked 2 1)) (with-3 0x55 0x20 7 (masked 2 1))
+    ∷ []
+
+-- ---- VLR 64: all of V1 is 1, all of V2 is 2, and V3
+abbrev all : (c : List ℕ) → List ℕ → Lent
+all c numbers = lent (replicate 64 0 ++ replicate 64 1 ++ replicate 64 2 ++ c ++ replicate 768 0) numbers [] 0 0
+
+abbrev pub lengths : List Row
+lengths =
+    -- all 64 elements; element 63 alone; and every bit of the mask, where 1 is less than 2
+    done (operate 0x80 0x0123 0) (all (replicate 64 7) (enabled 64)) (all (replicate 64 3) (enabled 64))
+    ∷ done (operate 0x80 0xC123 0) (all (replicate 64 7) (masked 64 0x8000_0000_0000_0000))
+    (all (replicate 63 7 ++ (3 ∷ [])) (masked 64 0x8000_0000_0000_0000))
+    ∷ done (operate 0xC0 0x0122 0) (all (replicate 64 7) (enabled 64)) (all (replicate 64 7) (masked 64 0xFFFF_FFFF_FFFF_FFFF))
+    -- IOTA counts 64 matching bits
+    ∷ done (operate 0xED 0x0003 0) (all (replicate 64 7) (enabled 64)) (all (replicate 64 0) (control 64 0 64 0 1))
     ∷ []
 
 -- four elements of V5, under VLR 4 and a mask

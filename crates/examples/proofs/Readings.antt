@@ -1,6 +1,6 @@
 -- Further rows, document 01, "Saved state and readings".
 use mathlib.Core.List.{List, [], _∷_, _++_}
-use Prim.Native.Nat.{ℕ}
+use Prim.Native.Nat.{ℕ, zero, suc, _/_, _%_}
 use lib.ListN.{replicate}
 use Rattle.state.specs.declared.answer.Answer.the-variants.{OrderRefused}
 use Rattle.demands.specs.Calls.{Lent, lent, reading, save, load, listState, listFile, listAnswer, printRun}
@@ -47,10 +47,20 @@ readings =
     ∷ done (reading 1 2 1) (lent (holding (v 1 2 5 ∷ v 2 1 6 ∷ [])) (enabled 1) [] 0 0) (lent (holding (v 1 2 5 ∷ v 2 1 6 ∷ [])) (enabled 1) [] 1 5)
     ∷ []
 
--- a file's record: its number, a filler byte and its contents, both below 256
+-- a file's record: its number, a filler byte and its contents, of which two bytes may not be zero, before other records
 abbrev entry : (number filler contents : ℕ) → List ℕ → List ℕ
 entry number filler contents rest =
-    number ∷ 0 ∷ 0 ∷ 0 ∷ 0 ∷ 0 ∷ 0 ∷ filler ∷ contents ∷ 0 ∷ 0 ∷ 0 ∷ 0 ∷ 0 ∷ 0 ∷ 0 ∷ rest
+    number % 256 ∷ number / 256 ∷ 0 ∷ 0 ∷ 0 ∷ 0 ∷ 0 ∷ filler ∷ contents % 256 ∷ contents / 256 ∷ 0 ∷ 0 ∷ 0 ∷ 0 ∷ 0 ∷ 0 ∷ rest
+
+-- so many records of zero contents from a number on
+abbrev blank : (count number : ℕ) → List ℕ → List ℕ
+blank zero number rest = rest
+blank (suc count) number rest = entry number 0 0 (blank count (suc number) rest)
+
+-- the file of V5[3] = 1234, VLR 4, VMR 5678, VCR 3, VAER 21 and VPSR 81: record 5*64+3, and those from 1024 on
+abbrev whole : List ℕ → List ℕ
+whole rest =
+    blank 323 0 (entry 323 0 0x1234 (blank 700 324 (entry 1024 0 4 (entry 1025 0 0x5678 (entry 1026 0 3 (entry 1027 0 0x21 (entry 1028 0 0x81 rest)))))))
 
 abbrev refusesFile : List ℕ → (number : ℕ) → Row
 refusesFile file number = refuses (load file) (state (v 0 0 4 ∷ []) (enabled 1)) 10 number
@@ -62,6 +72,9 @@ files =
     ∷ refusesFile (entry 0 0 1 (1 ∷ 0 ∷ [])) 1
     ∷ refusesFile (entry 1 0 1 (entry 1 0 1 [])) 0
     ∷ refusesFile (entry 0 0 1 (entry 1 5 1 [])) 1
+    -- saving, into 16,466 bytes: "bytes beyond 16,464 are kept"
+    ∷ done save (stateAnd (v 5 3 0x1234 ∷ []) (control 4 0x5678 3 0x21 0x81) (replicate 16466 9))
+    (stateAnd (v 5 3 0x1234 ∷ []) (control 4 0x5678 3 0x21 0x81) (whole (9 ∷ 9 ∷ [])))
     -- "Saving into less than 16,464 bytes gets 10 with the first record that has no room, and writes nothing"
     ∷ refuses save (stateAnd (v 0 0 4 ∷ []) (enabled 1) []) 10 0
     ∷ refuses save (stateAnd (v 0 0 4 ∷ []) (enabled 1) (replicate 16463 7)) 10 1028

@@ -1,7 +1,8 @@
 -- A row of the table of examples: what is put, at which start, and what has to come of it. Then the short forms that rows are written in. A row
 -- holds where what is computed from the definitions that the promises cite is what is wanted.
+use mathlib.Core.Path.{_≡_, refl, sym, ap, ap₂, _∙_}
 use mathlib.Core.Bool.{Bool}
-use mathlib.Core.List.{List, [], _∷_}
+use mathlib.Core.List.{List, [], _∷_, _++_}
 use Prim.Native.Nat.{ℕ, _+_, _*_}
 use lib.ListN.{replicate, set}
 use Rattle.memory.specs.Window.{allowed}
@@ -28,6 +29,24 @@ abbrev pub wanted : List Row → List Came
 wanted [] = []
 wanted (puts call start given end ∷ rows) = gave (given, end) ∷ wanted rows
 wanted (window bytes origin answer ∷ rows) = answered answer ∷ wanted rows
+
+-- THE STATEMENT: every row holds
+abbrev pub Holds : List Row → Type 0
+Holds rows = computed rows ≡ wanted rows
+
+-- a table holds where its parts do, so that each may be computed by itself
+computed-parts : (a b : List Row) → computed (a ++ b) ≡ computed a ++ computed b
+computed-parts [] b = refl
+computed-parts (puts call start given end ∷ a) b = ap (λ (l : List Came). gave (called call start) ∷ l) (computed-parts a b)
+computed-parts (window bytes origin answer ∷ a) b = ap (λ (l : List Came). answered (allowed bytes origin) ∷ l) (computed-parts a b)
+
+wanted-parts : (a b : List Row) → wanted (a ++ b) ≡ wanted a ++ wanted b
+wanted-parts [] b = refl
+wanted-parts (puts call start given end ∷ a) b = ap (λ (l : List Came). gave (given, end) ∷ l) (wanted-parts a b)
+wanted-parts (window bytes origin answer ∷ a) b = ap (λ (l : List Came). answered answer ∷ l) (wanted-parts a b)
+
+pub both-hold : (a b : List Row) → Holds a → Holds b → Holds (a ++ b)
+both-hold a b ha hb = computed-parts a b ∙ ap₂ _++_ ha hb ∙ sym (wanted-parts a b)
 
 -- ---- what is lent: all that is not named is zero
 -- element e of register r holds x

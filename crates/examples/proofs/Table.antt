@@ -31,6 +31,7 @@ use Rattle.touch.specs.Parts.{instructionAt}
 use Rattle.touch.specs.Touch.{isStep, stepsOf, below, reads, writes, meet, conflict, mustPrecede}
 use Rattle.queue.specs.Queue.{atPosition, positions, acceptance, straight}
 use Rattle.queue.specs.Run.{ranThrough, verdictOf, queueRun, orderedRun}
+use Rattle.saved.specs.File.{contentsOf, recordBytes, records, fileOf}
 use Rattle.saved.specs.Save.{saving}
 use Rattle.saved.specs.Load.{contentsInRange, goodPart, goodRecord, leading, accepted, loading}
 use Rattle.listing.specs.Text.{digitOf, digits, decimals, widthOf, line, elementLine, elementText, elementLines, controlLines, listing, badLine, answerLine}
@@ -39,25 +40,23 @@ use Rattle.running.specs.Runner.{inputRun, blank, textOf}
 use Rattle.panel.specs.Panel.{fieldAnswer}
 use Rattle.kujawian.specs.Face.{controlOf, controlInto, left, executed, fieldRead}
 use Rattle.demands.specs.Calls.{called}
-use Rattle.examples.proofs.Rows.{Row, computed, wanted}
+use Rattle.examples.proofs.Rows.{Row, Holds, both-hold}
 use Rattle.examples.proofs.Settled.{settled}
 use Rattle.examples.proofs.Works.{opcodes, words}
-use Rattle.examples.proofs.Elements.{masks, iotas, relations, results, exceptions}
+use Rattle.examples.proofs.Elements.{masks, lengths, iotas, relations, results, exceptions}
 use Rattle.examples.proofs.Memory.{windows, elements}
 use Rattle.examples.proofs.Controls.{moves, settings, ranges}
 use Rattle.examples.proofs.Numbers.{numbers, orders}
 use Rattle.examples.proofs.Queues.{queues, lists, touches}
 use Rattle.examples.proofs.Readings.{readings, files, texts}
 
-abbrev pub table : List Row
-table =
-    -- document 01, "Settled examples", 1 to 12; document 02, Q-1 and Q-2
-    settled
-    -- ---- FURTHER ROWS, for rules that no example guards
+-- ---- the further rows, for rules that no example guards
+abbrev further : List Row
+further =
     -- "Opcodes": each of the 40, with a result of its own; reserved opcodes and control words
-    ++ opcodes ++ words
+    opcodes ++ words
     -- "What an element receives"
-    ++ masks ++ iotas ++ relations ++ results ++ exceptions
+    ++ masks ++ lengths ++ iotas ++ relations ++ results ++ exceptions
     -- "Memory"
     ++ windows ++ elements
     -- "Control moves", each setting of VPSR, and "The state"
@@ -67,18 +66,34 @@ table =
     -- "Queues and orders": queues, faults of a list, and each line of what a step touches
     ++ queues ++ lists ++ touches
     -- "Saved state and readings"
-    ++ readings ++ files ++ texts
+    ++ readings
 
--- A row that does not hold is found by leaving parts of the table out.
-pub table-holds : computed table ≡ wanted table
+-- and those that go through a whole file or text
+abbrev whole : List Row
+whole = files ++ texts
+
+-- ---- document 01's twelve and those of the requests, then the further rows
+abbrev pub table : List Row
+table = (settled ++ further) ++ whole
+
+-- each part by computation; a row that does not hold is found by leaving others out
+settled-hold : Holds (settled ++ further)
 unfolding called controlOf controlInto left executed fieldRead readWhen writeWhen vpsrTaken fieldAnswer inRange afterRefusal
     saving loading accepted leading goodRecord goodPart contentsInRange
-    stateListed listed printed listing elementLines elementText elementLine controlLines line digits digitOf widthOf decimals badLine answerLine
-    inputRun blank textOf
     executedOf carriedOut opcodeOf decodedOf refused controlWordOf rowAt rowOf workAt
     instructionDone wholeOf stepsBelow stepOf elementStep operated worked received resultOf written joined ended notes iotaStep walked turned matching
     sumOf differenceOf productOf signed low32 overflows negative isZero relationHolds delivered rounded size
     movedOf allowed rising testOf testStep loadStep storeStep
     queueRun orderedRun acceptance positions atPosition ranThrough straight instructionAt
     verdictOf check checkFrom ok ready each has mustPrecede conflict meet reads writes below stepsOf passing isStep
-table-holds = refl
+settled-hold = refl
+
+whole-hold : Holds whole
+unfolding called controlOf controlInto left inRange afterRefusal saving loading accepted leading goodRecord goodPart contentsInRange
+    contentsOf recordBytes records fileOf
+    stateListed listed printed listing elementLines elementText elementLine controlLines line digits digitOf widthOf decimals badLine answerLine
+    inputRun blank textOf
+whole-hold = refl
+
+pub table-holds : Holds table
+table-holds = both-hold (settled ++ further) whole settled-hold whole-hold
