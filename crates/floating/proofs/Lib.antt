@@ -15,4 +15,3 @@ pub mod Ordering
 pub mod Double
 pub mod Shown
 pub mod Signed
-pub mod Examples

@@ -1,5 +1,4 @@
 -- Laws of the integer work of one element.
-pub mod Examples
 pub mod Forms
 pub mod LowBits
 pub mod Order

@@ -6,6 +6,5 @@ pub mod Recording
 pub mod Compares
 pub mod Values
 pub mod IotaLaws
-pub mod IotaExample
 pub mod IotaTouches
 pub mod Ranged

@@ -7,4 +7,3 @@ pub mod Moving
 pub mod Relative
 pub mod Accessing
 pub mod Outcomes
-pub mod Examples

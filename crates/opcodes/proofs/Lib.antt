@@ -4,4 +4,3 @@ pub mod Rule
 pub mod OperatedOn
 pub mod Words
 pub mod Passed
-pub mod Examples
