@@ -87,7 +87,7 @@ relations =
     ∷ comparesF 0x0124 0xFB
     ∷ comparesF 0x0125 0xFD
     ∷ comparesF 0x0126 0xFE
-    -- a one that does not hold is cleared; with MOE and MTF 1 a bit that is zero is not operated on: of VMR 2 only bit 1 is, where 2 is not less than 2
+    -- with MOE, of VMR 2: under MTF 1 only bit 1, which is cleared, since 2 is not less than 2; under MTF 0 only bit 0, which is set, since 0 is less than 1
     ∷ done (operate 0xC0 0xC122 0) (state (v 1 1 2 ∷ v 2 0 1 ∷ v 2 1 2 ∷ []) (masked 2 2)) (state (v 1 1 2 ∷ v 2 0 1 ∷ v 2 1 2 ∷ []) (masked 2 0))
     ∷ done (operate 0xC0 0x8122 0) (state (v 2 0 1 ∷ v 2 1 2 ∷ []) (masked 2 2)) (state (v 2 0 1 ∷ v 2 1 2 ∷ []) (masked 2 3))
     -- a zero with a fraction is zero
