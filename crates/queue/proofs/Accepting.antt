@@ -1,11 +1,11 @@
 -- The acceptance of a queue, as the code walks through it. Assumes nothing.
 use mathlib.Core.Path.{_≡_, refl, sym, ap, _∙_}
-use mathlib.Core.Bool.{Bool, true, false, _&&_}
+use mathlib.Core.Bool.{Bool, true, false, not, _&&_}
 use Prim.Native.Nat.{ℕ, zero, suc, _+_, _<_, _≤_}
 use native.Mathlib.Omega.{arith}
 use native.Mathlib.Numerals.{add-one}
 use native.Mathlib.Decide.{ℕ-discrete}
-use borrow.Author.Tests.{leb-true, eqb-true}
+use borrow.Author.Tests.{not-true, not-false, leb-true, eqb-true}
 use lib.Dec.{leb, eqb}
 use lib.ListN.{length}
 use Rattle.numbers.specs.Choice.{pick}
@@ -60,25 +60,26 @@ module _ (q : Queue) where
       same : size q ≡ k
       same = omega arith
 
-  -- ---- the tests before them
+  -- ---- the tests before them: a, b and e are what they said
   module _ (c : Control) where
-    pub refused-12 : inRange c ≡ false → OutOfRange ≡ standing c q
-    unfolding standing
-    refused-12 e = rw e
-
-    module _ (in-range : inRange c ≡ true) where
-      pub refused-8 : wellFormed q ≡ false → QueueRefused ≡ standing c q
+    module _ (a : Bool) (ranged : a ≡ inRange c) where
+      pub refused-12 : not a ≡ true → OutOfRange ≡ standing c q
       unfolding standing
-      refused-8 e = rw (in-range, e)
+      refused-12 out = rw (sym ranged ∙ not-true a out)
 
-      module _ (well-formed : wellFormed q ≡ true) where
-        pub refused-3 : enabled c ≡ false → Disabled ≡ standing c q
+      module _ (b : Bool) (formed : b ≡ wellFormed q) (within : not a ≡ false) where
+        pub refused-8 : not b ≡ true → QueueRefused ≡ standing c q
         unfolding standing
-        refused-3 e = rw (in-range, well-formed, e)
+        refused-8 ill = rw (sym ranged ∙ not-false a within, sym formed ∙ not-true b ill)
 
-        pub refused-not : enabled c ≡ true → Done 0 ≡ standing c q
-        unfolding standing
-        refused-not e = rw (in-range, well-formed, e)
+        module _ (e : Bool) (on : e ≡ enabled c) (well : not b ≡ false) where
+          pub refused-3 : not e ≡ true → Disabled ≡ standing c q
+          unfolding standing
+          refused-3 off = rw (sym ranged ∙ not-false a within, sym formed ∙ not-false b well, sym on ∙ not-true e off)
+
+          pub refused-not : not e ≡ false → Done 0 ≡ standing c q
+          unfolding standing
+          refused-not still = rw (sym ranged ∙ not-false a within, sym formed ∙ not-false b well, sym on ∙ not-false e still)
 
     then : acceptance c q ≡ pick (isDone (standing c q)) (positions q (size q)) (standing c q)
     unfolding acceptance standing

@@ -117,9 +117,10 @@ module _ (file : List ℕ) (k : ℕ) (e : k ≡ leading 1029 file) where
   unfolding accepted
   judged = ap (λ (n : ℕ). eqb n 1029 && leb (length file) 16464) e
 
-  pub room : (eqb k 1029 && leb (length file) 16464) ≡ true → 16464 ≤ length file
-  room t =
-      let n : k ≡ 1029 = eqb-true k 1029 (and-left (eqb k 1029) (leb (length file) 16464) t) in
+  -- whatever is tested beside the records
+  pub room : (b : Bool) → (eqb k 1029 && b) ≡ true → 16464 ≤ length file
+  room b t =
+      let n : k ≡ 1029 = eqb-true k 1029 (and-left (eqb k 1029) b t) in
       good-whole file 1028 (last-good 1028 file (sym e ∙ n) .1)
 
   pub loads : (els old : List ℕ) (c c₀ : Control) → (eqb k 1029 && leb (length file) 16464) ≡ true → els ≡ elementsIn 1024 file old → c ≡ controlIn file

@@ -6,18 +6,18 @@ use borrow.Author.Needs.{needs}
 use Rattle.panel.proofs.reading.Statement.{statement}
 use Rattle.panel.proofs.reading.Tie as tie
 
+returns : tie.Need-returns
+returns c = search (refused, needs)
+
+returns-2 : tie.Need-returns-2
+returns-2 c = search (no-field, needs)
+
 -- the field's bounds, past its test
 inside : (c : tie.Else2)
     → let start : tie.Start = search needs in (start .args .register .0 < 16) × (start .args .element .0 < 64) × (start .args .kind < 2)
 inside c =
     let start : tie.Start = search needs in
     bounds (start .args .register .0) (start .args .element .0) (start .args .kind) _ (c .before .is-field .ensures) (c .if2 .left)
-
-returns : tie.Need-returns
-returns c = search (refused, needs)
-
-returns-2 : tie.Need-returns-2
-returns-2 c = search (no-field, needs)
 
 place-requires : tie.Need-place-requires
 place-requires c κs = (inside c .0, inside c .1)

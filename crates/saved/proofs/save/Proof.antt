@@ -1,4 +1,7 @@
 -- `save` meets its contract: its tests come in the definition's order. Assumes nothing.
+use Prim.Native.Nat.{_<_}
+use native.Mathlib.Omega.{arith}
+use lib.ListN.{length}
 use Rattle.saved.proofs.Saving.{refused, no-room, written}
 use borrow.Author.Needs.{needs}
 use Rattle.saved.proofs.save.Statement.{statement}
@@ -8,7 +11,10 @@ returns : tie.Need-returns
 returns c = search (refused, needs)
 
 returns-2 : tie.Need-returns-2
-returns-2 c = search (no-room, needs)
+returns-2 c =
+    let s : tie.Start = search needs in
+    let short : length (s .args .file .now) < 16464 = omega arith in
+    search (no-room, needs)
 
 returns-3 : tie.Need-returns-3
 returns-3 c = search (written, needs)

@@ -4,7 +4,7 @@ use Rattle.machine.proofs.lanes.land.Statement.{statement}
 use Rattle.machine.proofs.lanes.land.Tie as tie
 
 returns : tie.Need-returns
-returns c = rw (c .before .place .ensures)
+returns c = let p : tie.After-place = search needs in rw (p .place .ensures)
 
 pub land-spec : {M : Type 1} → statement M
 land-spec =
