@@ -69,10 +69,6 @@ matching-le vmr mtf (suc n) = one-more (matches vmr mtf n) (matching-le vmr mtf 
 pub counts : (vmr : ℕ) (mtf : Bool) (n m b : ℕ) → vmr < 2 ^ 64 → n ≤ 64 → m ≡ pick mtf vmr (complement 64 vmr) → b ≡ lowBits m n → ones b ≡ matching vmr mtf n
 counts vmr mtf n m b small h e f = ap ones (f ∙ ap (λ (x : ℕ). lowBits x n) e) ∙ ones-matching 64 vmr mtf n small h
 
--- it is no larger than VLR
-pub count-short : (vmr : ℕ) (mtf : Bool) (n m b k : ℕ) → vmr < 2 ^ 64 → n ≤ 64 → m ≡ matched vmr mtf → b ≡ lowBits m n → k ≡ ones b → k ≤ 64
-count-short vmr mtf n m b k small h e f g = let c = g ∙ counts vmr mtf n m b small h e f in let l = matching-le vmr mtf n in omega arith
-
 -- ---- the walk over the ones of the mask or its complement, cut at VLR
 
 -- the walk goes on: the next element is no higher than the one that the lowest one left stands for

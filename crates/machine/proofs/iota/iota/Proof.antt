@@ -1,5 +1,7 @@
 -- `iota` meets its contract: the walk's turns and the count of the set's ones are IOTA's one step. Assumes nothing.
-use Rattle.machine.proofs.IotaLaws.{stepped, count-short}
+use Prim.Native.Nat.{_≤_}
+use lib.Count.{ones, ones-le}
+use Rattle.machine.proofs.IotaLaws.{stepped}
 use Rattle.numbers.specs.Working.{lowBits}
 use mathlib.Core.Path.{refl, sym, ap, _∙_}
 use borrow.Author.Needs.{needs}
@@ -8,10 +10,9 @@ use Rattle.machine.proofs.iota.iota.Tie as tie
 
 low-bits-requires-2 : tie.Need-low-bits-requires-2
 low-bits-requires-2 c κs =
-    let s : tie.Start = search needs in
     let l : tie.After-low-bits = search needs in
-    let a = s .args in
-    count-short (a .vmr) (a .instruction .mtf) (a .vlr) (a .mask) _ _ (search needs) (s .pre .1) (s .pre .3) (l .low-bits .ensures) (c .count .ensures)
+    let few : ones (l .low-bits .result) ≤ 64 = ones-le 64 (l .low-bits .result) (search needs) in
+    rw (c .count .ensures) few
 
 returns : tie.Need-returns
 returns c =
