@@ -2,7 +2,7 @@
 # A must-fail edit that only made a proof file unfit for the code shows nothing: it has to be refused because a fact is false. Its log
 # tells. The first error is read whole, over all the lines that it takes; one that says that something else was not admitted only follows
 # from another, and is passed over. An edit shows nothing where that error says that a field or a name is not there, that something is not of
-# a need's type, or where it stands in the edited source, whose text then says nothing; where any error names a need, a call or a Tie that is
+# a need's type, or that the prover stopped, or where it stands in the edited source, whose text then says nothing; where any error names a need, a call or a Tie that is
 # not there; or where there is no error and no fact is left open. Later errors of the other kinds may follow from a false fact.
 set -eu
 cd "$(dirname "$0")/.."
@@ -24,7 +24,8 @@ judged() {
             told()
             if (first ~ /has no (field|`)/ || first ~ /expected type `tie\.Need-/) unfit = 1
             if (unfit) print "the proof no longer fits the code"
-            else if (first ~ /^[^ ]*must-fail\/[^ \/]*\/[^ \/]*\/src\/[^ ]*: error/) print "the edited source says nothing"
+            else if (first ~ /stopped at (the step limit|a bound of its own)/) print "the prover stopped before it knew"
+            else if (first ~ /^[^ ]*must-fail\/[^ \/]*\/[^ \/]*\/(src|specs)\/[^ ]*: error/) print "the edited source says nothing"
             else if (first == "" && !open) print "no fact is left open"
         }' "$1"
 }
@@ -43,7 +44,13 @@ for edit in crates/*/must-fail/*.edit; do
     crate=${edit#crates/}
     name=${crate%%/*}/$(basename "$edit" .edit)
     log=target/must-fail/$name/.log
-    if [ -f "$log" ]; then said=$(judged "$log"); else said="it has not been tried"; fi
+    if [ ! -f "$log" ]; then
+        said="it has not been tried"
+    elif [ "$edit" -nt "$log" ]; then
+        said="it has changed since it was tried"
+    else
+        said=$(judged "$log")
+    fi
     [ -z "$said" ] || { echo "edits: $name shows nothing: $said"; bad=1; }
 done
 [ "$bad" -eq 0 ] || exit 1

@@ -20,4 +20,20 @@ if ! cmp -s "$named" "$kept"; then
     comm -13 "$named" "$kept" | sed 's,.*,promises: & is an edit that docs/PROMISES.md does not name,'
     exit 1
 fi
-echo "promises: docs/PROMISES.md names each of the $(wc -l <"$kept") must-fail edits"
+
+# The theorems: what stands between backquotes in the last column of the first table is names and then their file, where each is proved.
+bad=0
+awk -F'|' '/^## / { demands = ($0 == "## The three demands") } demands && /^\|/ { print $4 }' docs/PROMISES.md | grep '`' >"$named"
+while IFS= read -r cell; do
+    file=$(echo "$cell" | sed 's/.*`\([^`]*\)`[^`]*$/\1/')
+    for name in $(echo "$cell" | tr ',' '\n' | sed -n 's/.*`\([^`/]*\)`.*/\1/p'); do
+        if ! grep -q "^pub $name :" "$file"; then
+            echo "promises: docs/PROMISES.md names $name in $file, which does not prove it"
+            bad=1
+        fi
+    done
+done <"$named"
+[ "$bad" -eq 0 ] || exit 1
+theorems=$(wc -l <"$named")
+
+echo "promises: docs/PROMISES.md names each of the $(wc -l <"$kept") must-fail edits; the theorems of its $theorems demands and laws stand where it says"

@@ -18,7 +18,9 @@ use Rattle.state.specs.State.{State, state, inRange}
 use Rattle.state.specs.Elements.{at}
 use Rattle.control.specs.Moves.{vlrRead, vcrRead, vmrLowRead, vmrHighRead, vaerRead, vpsrRead}
 use Rattle.control.specs.Moves.{vlrWritten, vcrWritten, vmrLowWritten, vmrHighWritten, vpsrWritten}
+use Rattle.opcodes.specs.Decoding.{decodedOf}
 use Rattle.execute.specs.Execute.{executedOf}
+use Rattle.queue.specs.Queue.{answerTo}
 use Rattle.queue.specs.Run.{queueRun, orderedRun}
 use Rattle.saved.specs.Save.{saving}
 use Rattle.saved.specs.Load.{loading}
@@ -29,7 +31,7 @@ use Rattle.kujawian.specs.Face.{controlOf, controlInto, stateOf, left, executed
 use Rattle.kujawian.proofs.Stored.{stored-back}
 use Rattle.demands.specs.Calls.{Call, Lent, lent, readOff, intoControl, intoState, intoWindow, intoBytes, intoReading, called}
 use Rattle.demands.specs.Calls.{readVlr, readVcr, readVmrLow, readVmrHigh, readVaer, readVpsr, writeVlr, writeVcr, writeVmrLow, writeVmrHigh, writeVpsr}
-use Rattle.demands.specs.Calls.{execute, run, runOrder, save, load, reading, listState, listFile, listAnswer, printRun}
+use Rattle.demands.specs.Calls.{execute, run, runOrder, save, load, reading, listState, listFile, listAnswer, printRun, decode}
 use Rattle.demands.specs.One.{DemandOne}
 use Rattle.demands.proofs.Keeping.{Keeps}
 use Rattle.demands.proofs.CallsKeep.{write-keeps, execute-keeps, run-keeps, order-keeps, save-keeps, load-keeps, print-keeps, list-keeps}
@@ -126,6 +128,7 @@ every listState l = bytes l (stateListed (stateOf (l .elements) (l .control)) (l
 every (listFile file) l = bytes l (fileListed file (l .bytes)) (print-keeps _ _ (l .bytes))
 every (listAnswer answer) l = bytes l (answerListed answer (l .bytes)) (print-keeps _ _ (l .bytes))
 every (printRun input) l = bytes l (inputPrinted input (l .bytes)) (print-keeps _ _ (l .bytes))
+every (decode enabled queued position opcode cntrl) l = nothing l (answerTo (decodedOf enabled queued position opcode cntrl))
 
 -- DEMAND 1
 pub holds : (call : Call) (l : Lent) → DemandOne call l

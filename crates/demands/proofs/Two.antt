@@ -1,5 +1,5 @@
--- DEMAND 2, the theorem `holds`: when an instruction is done, and what it then leaves, from its entry state. Beside it
--- the two round trips of saving and loading. Assumes nothing.
+-- DEMAND 2, the theorem `holds`: when an instruction is done, and what it then leaves, from its entry state; and the two round trips of saving and
+-- loading. Assumes nothing.
 use mathlib.Core.Bool.{Bool, true, false, _&&_}
 use mathlib.Core.List.{List}
 use mathlib.Core.Path.{_≡_, refl, sym, ap, subst, _∙_}
@@ -35,7 +35,7 @@ use Rattle.memory.proofs.Outcomes as memory
 use Rattle.execute.specs.Execute.{carriedOut, asDecoded, executedOf}
 use Rattle.saved.proofs.Saving.{saves-done}
 use Rattle.saved.proofs.RoundTrip.{loads-again, saves-again}
-use Rattle.demands.specs.Two.{placeIn, bytesEach, Inside, Loaded, Stored, Accepts, Leaves, DemandTwo, LoadsAgain, SavesAgain}
+use Rattle.demands.specs.Two.{placeIn, bytesEach, Inside, Loaded, Stored, Accepts, Leaves, OneInstruction, DemandTwo}
 use Rattle.demands.proofs.Coming.{and-twice, come}
 use Rattle.demands.proofs.Elementwise as elementwise
 use Rattle.demands.proofs.Counting as counting
@@ -225,9 +225,9 @@ module _ (s : State) (opcode cntrl scalar base stride : ℕ) (w : List ℕ) (ori
             stores = λ n. absurd (true-not-false (sym m ∙ n));
           }
 
--- DEMAND 2: of any state, opcode, control word, scalar, base, stride, window and origin
-pub holds : (s : State) (opcode cntrl scalar base stride : ℕ) (w : List ℕ) (origin : ℕ) → DemandTwo s opcode cntrl scalar base stride w origin
-holds s opcode cntrl scalar base stride w origin = record {
+-- any state, opcode, control word, scalar, base, stride, window and origin
+instruction : (s : State) (opcode cntrl scalar base stride : ℕ) (w : List ℕ) (origin : ℕ) → OneInstruction s opcode cntrl scalar base stride w origin
+instruction s opcode cntrl scalar base stride w origin = record {
   done = (
     was-accepted s opcode cntrl scalar base stride w origin,
     λ x. ap isDone (gives s opcode cntrl scalar base stride w origin (x .0) (x .1)),
@@ -236,10 +236,11 @@ holds s opcode cntrl scalar base stride w origin = record {
   leaves = λ count ins a. leaves s opcode cntrl scalar base stride w origin ins a count;
 }
 
--- ---- saving and loading
-pub load-of-save : (s : State) → LoadsAgain s
-load-of-save s held old room count h =
-    (ap (λ (o : Outcome (List ℕ)). o .answer) (saves-done s room (held .ranged) h), loads-again s old room held count h)
-
-pub save-of-load : (file : List ℕ) → SavesAgain file
-save-of-load file bytes old s room count e h = saves-again file old s room bytes count e h
+-- DEMAND 2
+pub holds : DemandTwo
+holds = record {
+  instruction = instruction;
+  load-of-save = λ s held old room count h.
+      (ap (λ (o : Outcome (List ℕ)). o .answer) (saves-done s room (held .ranged) h), loads-again s old room held count h);
+  save-of-load = λ file bytes old s room count e h. saves-again file old s room bytes count e h;
+}

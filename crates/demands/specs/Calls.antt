@@ -1,6 +1,7 @@
 -- The public calls as one: what a caller lends, and what each call gives back and leaves of it. A line says what its call promises
--- (crates/kujawian/src/lib.rt; the last four are crates/listing's and crates/running's), over the definition that the promise cites; the control record
--- stands here as its five numbers, which to C are the same. Decoding and the floating operations alter nothing, and have no line.
+-- (crates/kujawian/src/lib.rt; the last five are crates/listing's, crates/running's and crates/opcodes'), over the definition that the promise cites; the control record
+-- stands here as its five numbers, which to C are the same. The floating operations give no number, and have no line.
+use mathlib.Core.Bool.{Bool}
 use mathlib.Core.List.{List}
 use Prim.Native.Nat.{ℕ}
 use Rattle.state.specs.declared.Control.{Control}
@@ -9,8 +10,10 @@ use Rattle.state.specs.Answer.{numbers}
 use Rattle.state.specs.Outcome.{Outcome, given}
 use Rattle.control.specs.Moves.{vlrRead, vcrRead, vmrLowRead, vmrHighRead, vaerRead, vpsrRead}
 use Rattle.control.specs.Moves.{vlrWritten, vcrWritten, vmrLowWritten, vmrHighWritten, vpsrWritten}
+use Rattle.opcodes.specs.Decoding.{decodedOf}
 use Rattle.execute.specs.Execute.{executedOf}
 use Rattle.touch.specs.Parts.{Queue}
+use Rattle.queue.specs.Queue.{answerTo}
 use Rattle.queue.specs.Run.{queueRun, orderedRun}
 use Rattle.saved.specs.Save.{saving}
 use Rattle.saved.specs.Load.{loading}
@@ -41,6 +44,7 @@ pub data Call : Type 0 where
   listFile : (file : List ℕ) → Call
   listAnswer : Answer → Call
   printRun : (input : List ℕ) → Call
+  decode : (enabled queued : Bool) → (position opcode cntrl : ℕ) → Call
 
 -- what it may alter: the state, elements and five numbers; lent bytes, which are an instruction's window, a file to save into, or room for
 -- a text; *kind_read and *bits of a reading. What stands beside the number is not among it
@@ -103,3 +107,4 @@ called listState l = intoBytes l (stateListed (stateOf (l .elements) (l .control
 called (listFile file) l = intoBytes l (fileListed file (l .bytes))
 called (listAnswer answer) l = intoBytes l (answerListed answer (l .bytes))
 called (printRun input) l = intoBytes l (inputPrinted input (l .bytes))
+called (decode enabled queued position opcode cntrl) l = readOff l (answerTo (decodedOf enabled queued position opcode cntrl))

@@ -142,7 +142,7 @@ pub record Leaves (ins : Instruction) (scalar base stride : ℕ) (s : State) (w 
   pub loads : isMemory (ins .work) ≡ true → isStore (ins .work) ≡ false → Loaded ins base stride s origin w w′ after
   pub stores : isMemory (ins .work) ≡ true → isStore (ins .work) ≡ true → Stored ins base stride s origin w w′ after
 
-pub record DemandTwo (s : State) (opcode cntrl scalar base stride : ℕ) (w : List ℕ) (origin : ℕ) : Type 0 where
+pub record OneInstruction (s : State) (opcode cntrl scalar base stride : ℕ) (w : List ℕ) (origin : ℕ) : Type 0 where
   -- it is done exactly when this holds of some instruction
   pub done : (isDone (executedOf s opcode cntrl scalar base stride w origin .answer) ≡ true)
       ↔ ((ins : Instruction) × Accepts s opcode cntrl base stride w origin ins)
@@ -164,3 +164,9 @@ abbrev pub SavesAgain : List ℕ → Type 0
 SavesAgain file =
     Bytes file → (old s : State) (room : List ℕ) → length (old .elements) ≡ 1024 → loading file old ≡ outcome (Done 0) s → 16464 ≤ length room
     → saving s room ≡ outcome (Done 0) (file ++ drop 16464 room)
+
+-- ---- DEMAND 2, whole
+pub record DemandTwo : Type 0 where
+  pub instruction : (s : State) (opcode cntrl scalar base stride : ℕ) (w : List ℕ) (origin : ℕ) → OneInstruction s opcode cntrl scalar base stride w origin
+  pub load-of-save : (s : State) → LoadsAgain s
+  pub save-of-load : (file : List ℕ) → SavesAgain file

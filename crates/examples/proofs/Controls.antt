@@ -1,5 +1,5 @@
 -- Further rows, document 01, "Control moves" and "The state": reads, writes, each setting of VPSR, and what a state may hold (12).
-use mathlib.Core.List.{List, [], _∷_}
+use mathlib.Core.List.{List, [], _∷_, _++_}
 use Prim.Native.Nat.{ℕ}
 use Rattle.demands.specs.Calls.{Call, Lent, readVlr, readVcr, readVmrLow, readVmrHigh, readVaer, readVpsr, writeVlr, writeVcr, writeVmrLow, writeVmrHigh}
 use Rattle.demands.specs.Calls.{writeVpsr}
@@ -48,8 +48,10 @@ moves =
 abbrev writes : (value vpsr vaer vpsr' : ℕ) → Row
 writes value vpsr vaer vpsr' = done (writeVpsr value) (only (control 7 5 9 0x0001_0001 vpsr)) (only (control 7 5 9 vaer vpsr'))
 
-abbrev refusesValue : (value : ℕ) → Row
-refusesValue value = refuses (writeVpsr value) on 11 0
+-- each of these values gets 11
+abbrev refusesEach : List ℕ → List Row
+refusesEach [] = []
+refusesEach (value ∷ values) = refuses (writeVpsr value) on 11 0 ∷ refusesEach values
 
 abbrev pub settings : List Row
 settings =
@@ -68,24 +70,16 @@ settings =
     -- bits 5, 6, 24, 25 and 31 have no effect
     ∷ writes 0x8300_0060 0x81 0x0001_0001 0x80
     ∷ writes 0x8300_0061 0 0x0001_0001 1
-    -- other settings of <3:0> get 11
-    ∷ refusesValue 5
-    ∷ refusesValue 6
-    ∷ refusesValue 7
-    ∷ refusesValue 0xA
-    ∷ refusesValue 0xB
-    ∷ refusesValue 0xC
-    ∷ refusesValue 0xD
-    ∷ refusesValue 0xE
-    ∷ refusesValue 0xF
-    -- and so does a one in <4>, <23:8> or <30:26>; never 3
-    ∷ refusesValue 0x11
-    ∷ refusesValue 0x101
-    ∷ refusesValue 0x80_0001
-    ∷ refusesValue 0x400_0001
-    ∷ refusesValue 0x4000_0001
+    -- never 3
     ∷ refuses (writeVpsr 5) off 11 0
     ∷ []
+    -- other settings of <3:0> get 11
+    ++ refusesEach (5 ∷ 6 ∷ 7 ∷ 0xA ∷ 0xB ∷ 0xC ∷ 0xD ∷ 0xE ∷ 0xF ∷ [])
+    -- and so does a one in <4>, <23:8> or <30:26>
+    ++ refusesEach (0x11 ∷ [])
+    ++ refusesEach (0x101 ∷ 0x201 ∷ 0x401 ∷ 0x801 ∷ 0x1001 ∷ 0x2001 ∷ 0x4001 ∷ 0x8001 ∷ [])
+    ++ refusesEach (0x1_0001 ∷ 0x2_0001 ∷ 0x4_0001 ∷ 0x8_0001 ∷ 0x10_0001 ∷ 0x20_0001 ∷ 0x40_0001 ∷ 0x80_0001 ∷ [])
+    ++ refusesEach (0x400_0001 ∷ 0x800_0001 ∷ 0x1000_0001 ∷ 0x2000_0001 ∷ 0x4000_0001 ∷ [])
 
 -- every control move gets 12 where the state is out of range
 abbrev outOfRange : (vlr vcr vaer vpsr : ℕ) → Call → Row
@@ -93,14 +87,26 @@ outOfRange vlr vcr vaer vpsr call = refuses call (only (control vlr 0 vcr vaer v
 
 abbrev pub ranges : List Row
 ranges =
-    -- VLR and VCR above 64; VAER bits 4, 6, 15 and 32; VPSR bits 1, 6, 8 and 25
+    -- VLR and VCR above 64; VAER bits 4, 6 to 15 and 32; VPSR bits 1 to 6, 8 and 25
     outOfRange 65 0 0 1 readVlr
     ∷ outOfRange 0 65 0 1 readVcr
     ∷ outOfRange 0 0 0x10 1 readVmrLow
     ∷ outOfRange 0 0 0x40 1 readVmrHigh
+    ∷ outOfRange 0 0 0x80 1 readVlr
+    ∷ outOfRange 0 0 0x100 1 readVlr
+    ∷ outOfRange 0 0 0x200 1 readVlr
+    ∷ outOfRange 0 0 0x400 1 readVlr
+    ∷ outOfRange 0 0 0x800 1 readVlr
+    ∷ outOfRange 0 0 0x1000 1 readVlr
+    ∷ outOfRange 0 0 0x2000 1 readVlr
+    ∷ outOfRange 0 0 0x4000 1 readVlr
     ∷ outOfRange 0 0 0x8000 1 readVaer
     ∷ outOfRange 0 0 0x1_0000_0000 1 readVpsr
     ∷ outOfRange 0 0 0 3 (writeVlr 1)
+    ∷ outOfRange 0 0 0 5 readVlr
+    ∷ outOfRange 0 0 0 9 readVlr
+    ∷ outOfRange 0 0 0 0x11 readVlr
+    ∷ outOfRange 0 0 0 0x21 readVlr
     ∷ outOfRange 0 0 0 0x41 (writeVcr 1)
     ∷ outOfRange 0 0 0 0x101 (writeVmrLow 1)
     ∷ outOfRange 0 0 0 0x200_0001 (writeVmrHigh 1)

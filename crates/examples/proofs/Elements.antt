@@ -102,6 +102,7 @@ results =
     ∷ gives 0x80 0x0123 0x7FFF_FFFF 1 0x8000_0000
     ∷ gives 0xA0 0x0123 0x1_0000 0x1_0000 0
     ∷ records 0xA0 0x2123 0x1_0000 0x1_0000 0 0x0008_0020
+    ∷ records 0x80 0x2123 0x8000_0000 0xFFFF_FFFF 0x7FFF_FFFF 0x0008_0020
     -- "Shifts: Vb by Va<4:0>": 33 is 1; nothing passes out of the 32 bits or into them
     ∷ gives 0xE4 0x0123 33 0x1_FFFF_FFFF 0xFFFF_FFFE
     ∷ gives 0xE0 0x0123 33 0x1_8000_0000 0x4000_0000
@@ -110,7 +111,15 @@ results =
     -- F, "halves away from zero": 1 and half a unit of its last place, with either sign
     ∷ gives 0x84 0x2123 0x4080 0x3480 0x0001_4080
     ∷ gives 0x84 0x2123 0xC080 0xB480 0x0001_C080
-    -- "A zero result is all zero bits"; a zero with a fraction is zero
+    -- signs: 2 - 3 and 1 + -2; 3 by -2 and -3 by -2, multiplied and divided
+    ∷ gives 0x8C 0x2123 0x4100 0x4140 0xC080
+    ∷ gives 0x84 0x2123 0x4080 0xC100 0xC080
+    ∷ gives 0xA4 0x2123 0x4140 0xC100 0xC1C0
+    ∷ gives 0xA4 0x2123 0xC140 0xC100 0x41C0
+    ∷ gives 0xAC 0x2123 0x4140 0xC100 0xC0C0
+    ∷ gives 0xAC 0x2123 0xC140 0xC100 0x40C0
+    -- "A zero result is all zero bits", of a negative underflow too; a zero with a fraction is zero
+    ∷ gives 0xA4 0x0123 0x8080 0x4000 0
     ∷ gives 0x8C 0x2123 0x4080 0x4080 0
     ∷ gives 0x84 0x2123 0xFFFF_007F 0xFFFF_007F 0
     ∷ gives 0x84 0x2123 0xFFFF_007F 0x4080 0x4080
@@ -118,8 +127,11 @@ results =
     -- "Overflow is judged after rounding": the largest number and half a unit of its last place; a quarter is less
     ∷ records 0x84 0x2123 0xFFFF_7FFF 0x7380 0x8008 0x0008_0008
     ∷ gives 0x84 0x2123 0xFFFF_7FFF 0x7300 0xFFFF_7FFF
-    -- conversions: -2.5 rounds to -3; 2^126 has no low bits, and overflows; L to F of -1, -2^31 and 7FFFFFFF, which rounds to 2^31; of 0
+    -- conversions: -2.5 rounds to -3; -2^31 - 256 overflows; 1/2 rounds to 1 and is cut to 0; 2^126 has no low bits, and overflows; L to F of -1, -2^31 and 7FFFFFFF, which rounds to 2^31; of 0
     ∷ gives 0xEC 0x2523 0 0xC120 0xFFFF_FFFD
+    ∷ records 0xEC 0x2523 0 0x0001_D000 0x7FFF_FF00 0x0008_0020
+    ∷ gives 0xEC 0x2523 0 0x4000 1
+    ∷ gives 0xEC 0x2423 0 0x4000 0
     ∷ records 0xEC 0x2523 0 0x7F80 0 0x0008_0020
     ∷ gives 0xEC 0x0523 0 0x7F80 0
     ∷ gives 0xEC 0x2123 0 0xFFFF_FFFF 0xC080
@@ -160,10 +172,14 @@ exceptions =
     -- "VAER gathers bits by or", and AEX may be set already; a recorded bit that was there stops it too
     ∷ ends 0x80 0x2123 0x7FFF_FFFF 1 0 0x8000_0000 (control 1 0 0 0x0001_0001 0x81) (stopped 1 0x0009_0021)
     ∷ ends 0x80 0x2123 0x7FFF_FFFF 1 0 0x8000_0000 (control 1 0 0 0x0008_0020 1) (stopped 1 0x0008_0020)
+    -- F compare: 1 is less than 1.5, and -1.5 than -1
+    ∷ ends 0xC4 0x0122 0x4080 0x40C0 0 0 (enabled 1) (masked 1 1)
+    ∷ ends 0xC4 0x0122 0xC0C0 0xC080 0 0 (enabled 1) (masked 1 1)
     -- where nothing is recorded VAER, VEN and AEX stay
     ∷ ends 0x80 0x2123 1 1 0 2 (control 1 0 0 0x0001_0001 0x81) (control 1 0 0 0x0001_0001 0x81)
     -- an element that is not operated on records nothing; one after the first that records is operated on
     ∷ ends 0x84 0xE123 0x8000 0x4080 7 7 (masked 1 0) (masked 1 0)
+    ∷ ends 0xEC 0xC123 0 3 7 7 (masked 1 0) (masked 1 0)
     ∷ done (operate 0x84 0x2123 0) (state (v 1 0 0x8000 ∷ v 1 1 0x4080 ∷ v 2 1 0x4080 ∷ []) (enabled 2))
     (state (v 1 0 0x8000 ∷ v 1 1 0x4080 ∷ v 2 1 0x4080 ∷ v 3 0 0x8004 ∷ v 3 1 0x4100 ∷ []) (stopped 2 0x0008_0004))
     ∷ []

@@ -71,4 +71,6 @@ elements =
     -- modulo 2^32: base FFFFFFF8 and 8 is 0, and 0 is FFFFFFF8, before a window at 0
     ∷ done (move 0x35 0x0021 0xFFFF_FFF8 0 0) (start (enabled 1) (1 ∷ 2 ∷ 3 ∷ 4 ∷ [])) (with-1 0xA_0403_0201 0xB_0000_0002 (enabled 1) (1 ∷ 2 ∷ 3 ∷ 4 ∷ []))
     ∷ refuses (move 0x35 0x0021 0xFFFF_FFF8 0 0) (start (enabled 2) (1 ∷ 2 ∷ 3 ∷ 4 ∷ [])) 6 1
+    -- a window that ends at 2^32
+    ∷ done (move 0x34 0x0021 0xFFFF_FFFC 0 0xFFFF_FFF8) (start (enabled 1) (replicate 8 0)) (with-1 0xA_0000_0000 0xB_0000_0002 (enabled 1) (replicate 8 0))
     ∷ []
