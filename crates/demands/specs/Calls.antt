@@ -1,6 +1,6 @@
 -- The public calls as one: what a caller lends, and what each call gives back and leaves of it. A line says what its call promises
--- (crates/kujawian/src/lib.rt; the last five are crates/listing's, crates/running's and crates/opcodes'), over the definition that the promise cites; the control record
--- stands here as its five numbers, which to C are the same. The floating operations give no number, and have no line.
+-- (crates/kujawian/src/lib.rt; the last five are crates/listing's, crates/running's and crates/opcodes'), over the definition that the promise cites; the
+-- control record stands here as its five numbers, which to C are the same. The floating operations give no number, and have no line.
 use mathlib.Core.Bool.{Bool}
 use mathlib.Core.List.{List}
 use Prim.Native.Nat.{ℕ}

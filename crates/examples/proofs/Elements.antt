@@ -127,7 +127,8 @@ results =
     -- "Overflow is judged after rounding": the largest number and half a unit of its last place; a quarter is less
     ∷ records 0x84 0x2123 0xFFFF_7FFF 0x7380 0x8008 0x0008_0008
     ∷ gives 0x84 0x2123 0xFFFF_7FFF 0x7300 0xFFFF_7FFF
-    -- conversions: -2.5 rounds to -3; -2^31 - 256 overflows; 1/2 rounds to 1 and is cut to 0; 2^126 has no low bits, and overflows; L to F of -1, -2^31 and 7FFFFFFF, which rounds to 2^31; of 0
+    -- conversions: -2.5 rounds to -3; -2^31 - 256 overflows; 1/2 rounds to 1 and is cut to 0; 2^126 has no low bits, and overflows; L to F of -1,
+    -- -2^31 and 7FFFFFFF, which rounds to 2^31; of 0
     ∷ gives 0xEC 0x2523 0 0xC120 0xFFFF_FFFD
     ∷ records 0xEC 0x2523 0 0x0001_D000 0x7FFF_FF00 0x0008_0020
     ∷ gives 0xEC 0x2523 0 0x4000 1
