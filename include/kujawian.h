@@ -1,6 +1,8 @@
 /*
- * Kujawian: DEC's VAX vector instructions, as document 01 fixes them, and document 02: Q-1 for
- * division, Q-2 for underflow. The calls of libkujawian.a.
+ * Kujawian: DEC's VAX vector instructions, as document 01 (the project's paper of exact rules) fixes
+ * them, and document 02 (the requests made after it): Q-1 for division, Q-2 for underflow. The calls of
+ * libkujawian.a, and names for the numbers that go in and out of them. docs/MANUAL.md has the rules
+ * themselves, for a reader who has neither paper.
  *
  * Every call is total: it takes any numbers and any lengths, and ends. It returns a number of
  * document 01 and writes what stands beside that number to *beside, always: 0 where document 01
@@ -42,8 +44,8 @@
  * 8 bits, a control word 16, a half of VMR and a value of VPSR 32.
  *
  * A slice is a pointer and then a length, counted in items; the pointer of an empty slice is never
- * read, and may be NULL. Arrays, slices and results lent to one call do not overlap, unless all are
- * const.
+ * read, and may be NULL. No other pointer may be NULL. Arrays, slices and results lent to one call do
+ * not overlap, unless all are const.
  *
  * A call keeps nothing behind: all it knows is what it is lent. Calls on different states may run at
  * the same time.
@@ -58,10 +60,57 @@
 extern "C" {
 #endif
 
+/* ---- Version ---- */
+
+#define KUJ_VERSION_MAJOR 0
+#define KUJ_VERSION_MINOR 10
+#define KUJ_VERSION_PATCH 0
+#define KUJ_VERSION "0.10.0"
+
+/* ---- Sizes ---- */
+
 enum {
     KUJ_ELEMENTS = 1024,    /* length of elements */
     KUJ_FILE_BYTES = 16464  /* length of a saved file: 1,029 records of 16 bytes */
 };
+
+enum {
+    KUJ_REGISTERS = 16,         /* V0 to V15 */
+    KUJ_REGISTER_LENGTH = 64,   /* elements of a register; the largest VLR and VCR */
+    KUJ_CONTROL_NUMBERS = 5,    /* numbers of the control record */
+    KUJ_RECORDS = 1029,         /* records of a saved file */
+    KUJ_RECORD_BYTES = 16,      /* length of a record */
+    KUJ_QUEUE_LENGTH = 16,      /* most instructions in a queue */
+    KUJ_ORDER_LENGTH = 1024,    /* most steps of a queue: 16 instructions of 64 elements */
+    KUJ_WINDOW_BYTES = 65536    /* longest window */
+};
+
+/* Where element e of register r stands in elements. */
+#define KUJ_PLACE(r, e) ((r) * 64 + (e))
+
+/* The step of element e of the instruction at position p, as an entry of an order. */
+#define KUJ_STEP(p, e) ((p) * 64 + (e))
+
+/* ---- The numbers that a call returns ---- */
+
+enum {
+    KUJ_DONE = 0,
+    KUJ_RESERVED_OPCODE = 1,
+    KUJ_RESERVED_CONTROL_WORD = 2,
+    KUJ_DISABLED = 3,               /* the processor is disabled: VEN is 0 */
+    KUJ_WINDOW_NOT_ALLOWED = 4,
+    KUJ_MISALIGNED = 5,
+    KUJ_OUTSIDE_WINDOW = 6,
+    KUJ_MEMORY_IN_QUEUE = 7,        /* a memory opcode in a queue */
+    KUJ_QUEUE_REFUSED = 8,          /* more than 16, or parts of unequal length */
+    KUJ_ORDER_NOT_PERMITTED = 9,
+    KUJ_BAD_FILE = 10,
+    KUJ_VALUE_REFUSED = 11,         /* a control value */
+    KUJ_STATE_OUT_OF_RANGE = 12,
+    KUJ_NO_SUCH_FIELD = 13
+};
+
+/* ---- The state ---- */
 
 /* The control record. */
 struct kuj_control {
@@ -72,11 +121,105 @@ struct kuj_control {
     uint64_t vpsr;  /* status */
 };
 
+/* Bits of VAER. The first four are also the codes of the reserved operands that exceptions write:
+   00008000 plus one of them, or 00008006 for a reserved operand divided by zero. */
+enum {
+    KUJ_VAER_UNDERFLOW = 0x01,          /* floating underflow */
+    KUJ_VAER_DIVISION_BY_ZERO = 0x02,   /* floating division by zero */
+    KUJ_VAER_RESERVED_OPERAND = 0x04,   /* floating reserved operand */
+    KUJ_VAER_OVERFLOW = 0x08,           /* floating overflow */
+    KUJ_VAER_INTEGER_OVERFLOW = 0x20
+};
+#define KUJ_VAER_REGISTER(n) ((uint64_t)1 << (16 + (n)))    /* an exception wrote Vn */
+#define KUJ_VAER_BITS ((uint64_t)0xFFFF002F)                /* all that VAER may hold */
+
+/* Bits of VPSR. A state holds VEN and AEX alone; RST is for kuj_write_vpsr. */
+enum {
+    KUJ_VPSR_VEN = 0x01,    /* the processor is enabled */
+    KUJ_VPSR_RST = 0x02,    /* written: clear VPSR and VAER */
+    KUJ_VPSR_AEX = 0x80     /* an exception was recorded; written: clear AEX and VAER */
+};
+#define KUJ_VPSR_BITS ((uint64_t)0x81)                      /* all that VPSR may hold */
+
 /* Kinds of a field, named by the caller of a reading. */
 enum { KUJ_F_FLOATING, KUJ_LONGWORD };
 
 /* What a reading gives back. */
 enum { KUJ_READ_BINARY64, KUJ_READ_LONGWORD, KUJ_READ_RESERVED };
+
+/* ---- Opcodes ---- */
+
+/* The byte after FD, by DEC's mnemonics: VV.. takes Va, VS.. a scalar in its place. All others are
+   reserved. */
+enum {
+    /* longword: add, subtract, multiply, compare */
+    KUJ_VVADDL = 0x80, KUJ_VSADDL = 0x81,
+    KUJ_VVSUBL = 0x88, KUJ_VSSUBL = 0x89,
+    KUJ_VVMULL = 0xA0, KUJ_VSMULL = 0xA1,
+    KUJ_VVCMPL = 0xC0, KUJ_VSCMPL = 0xC1,
+    /* bit set, exclusive or, bit clear */
+    KUJ_VVBISL = 0xC8, KUJ_VSBISL = 0xC9,
+    KUJ_VVXORL = 0xE8, KUJ_VSXORL = 0xE9,
+    KUJ_VVBICL = 0xCC, KUJ_VSBICL = 0xCD,
+    /* logical shift right, left */
+    KUJ_VVSRLL = 0xE0, KUJ_VSSRLL = 0xE1,
+    KUJ_VVSLLL = 0xE4, KUJ_VSSLLL = 0xE5,
+    /* F_floating: add, subtract, multiply, divide, compare */
+    KUJ_VVADDF = 0x84, KUJ_VSADDF = 0x85,
+    KUJ_VVSUBF = 0x8C, KUJ_VSSUBF = 0x8D,
+    KUJ_VVMULF = 0xA4, KUJ_VSMULF = 0xA5,
+    KUJ_VVDIVF = 0xAC, KUJ_VSDIVF = 0xAD,
+    KUJ_VVCMPF = 0xC4, KUJ_VSCMPF = 0xC5,
+    /* convert, IOTA, merge */
+    KUJ_VVCVT = 0xEC,
+    KUJ_IOTA = 0xED,
+    KUJ_VVMERGE = 0xEE, KUJ_VSMERGE = 0xEF,
+    /* memory, for kuj_execute alone: load and store by a stride, gather and scatter by offsets from Vb;
+       longwords, quadwords */
+    KUJ_VLDL = 0x34, KUJ_VLDQ = 0x36,
+    KUJ_VGATHL = 0x35, KUJ_VGATHQ = 0x37,
+    KUJ_VSTL = 0x9C, KUJ_VSTQ = 0x9E,
+    KUJ_VSCATL = 0x9D, KUJ_VSCATQ = 0x9F
+};
+
+/* ---- The control word ---- */
+
+/* Its flags. */
+enum {
+    KUJ_MOE = 0x8000,   /* operate on elements whose mask bit is MTF, and on no others */
+    KUJ_MTF = 0x4000,   /* the mask bit that matches is 1; without it, 0 */
+    KUJ_EXC = 0x2000    /* record integer overflow and floating underflow */
+};
+
+/* Where its fields begin; each has four bits. */
+enum {
+    KUJ_VA_BIT = 8,     /* Va, or a conversion */
+    KUJ_VB_BIT = 4,
+    KUJ_VC_BIT = 0      /* Vc, or a relation */
+};
+
+/* Relations of a compare, in place of Vc: Va, or the scalar, stands left. 3 and 7 are refused. */
+enum {
+    KUJ_GTR = 0,    /* greater */
+    KUJ_EQL = 1,    /* equal */
+    KUJ_LSS = 2,    /* less */
+    KUJ_LEQ = 4,    /* less or equal */
+    KUJ_NEQ = 5,    /* not equal */
+    KUJ_GEQ = 6     /* greater or equal */
+};
+
+/* Conversions of KUJ_VVCVT, in place of Va. All others are refused. */
+enum {
+    KUJ_CVTLF = 1,  /* longword to F_floating, rounded */
+    KUJ_CVTFL = 4,  /* F_floating to longword, truncated */
+    KUJ_CVTRFL = 5  /* F_floating to longword, rounded */
+};
+
+/* A control word of flags (0, or some of KUJ_MOE, KUJ_MTF and KUJ_EXC by or) and three fields, of which
+   the lowest four bits count: KUJ_CNTRL(KUJ_EXC, 0, 2, 5) is 0x2025. */
+#define KUJ_CNTRL(flags, va, vb, vc) \
+    ((uint16_t)((unsigned)(flags) | ((unsigned)(va) & 15u) << KUJ_VA_BIT | \
+                ((unsigned)(vb) & 15u) << KUJ_VB_BIT | ((unsigned)(vc) & 15u) << KUJ_VC_BIT))
 
 /* ---- Instructions ---- */
 
