@@ -1,16 +1,18 @@
 // One heat step, over the installed library, from C++. readings.c, readings.rs and readings.py do the same.
 //   c++ readings.cc $(pkg-config --cflags --libs kujawian) -o readings && ./readings SAVED
+#include <cerrno>
 #include <cstdio>
 #include <cstring>
 #include <fstream>
-#include <iterator>
 #include <kujawian.h>
 #include <vector>
 
 int main(int argc, char **argv)
 {
     std::ifstream file(argc == 2 ? argv[1] : "", std::ios::binary);
-    std::vector<char> saved{std::istreambuf_iterator<char>(file), {}};
+    std::vector<char> saved(KUJ_FILE_BYTES + 1); // one more, so that a file too long is seen as such
+    file.read(saved.data(), static_cast<std::streamsize>(saved.size()));
+    const size_t length = static_cast<size_t>(file.gcount());
     if (!file.is_open() || file.bad()) {
         std::fprintf(stderr, "readings: %s\n", argc == 2 ? std::strerror(errno) : "usage: readings SAVED");
         return 2;
@@ -18,7 +20,7 @@ int main(int argc, char **argv)
     std::vector<uint64_t> elements(KUJ_ELEMENTS);
     kuj_control control{};
     uint64_t beside, kind_read, bits;
-    uint32_t number = kuj_load(elements.data(), &control, reinterpret_cast<uint8_t *>(saved.data()), saved.size(), &beside);
+    uint32_t number = kuj_load(elements.data(), &control, reinterpret_cast<uint8_t *>(saved.data()), length, &beside);
 
     // V2 = V1 - V0, V2 = 0.125 * V2, V0 = V0 + V2
     const uint8_t opcodes[] = {0x8C, 0xA5, 0x84};
