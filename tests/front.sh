@@ -33,7 +33,7 @@ prints() { cmp -s "$1" "$tmp/out" || wrong "$what: standard output is not that o
 silent() { [ ! -s "$tmp/out" ] || wrong "$what: standard output is not empty"; }
 within() { (cd "$1" && shift && "$@"); }
 
-for tool in gcc g++ rustc python3 pkg-config gzip objcopy make; do
+for tool in gcc g++ rustc python3 pkg-config gzip objcopy make setpriv; do
     command -v "$tool" >/dev/null 2>&1 || { echo "front: $tool is not on the path, and this test needs it"; exit 1; }
 done
 for made in target/bin/lister target/bin/runner target/staticlib/libkujawian.a; do
@@ -69,16 +69,25 @@ head -c 60 "$in/packed" >"$in/damaged"
 : >"$in/empty"
 printf '\037' >"$in/one"
 ln -s nowhere "$in/dangling"
+chmod -R go+rX "$in"
+cp "$saved" "$in/unreadable"
+chmod 000 "$in/unreadable"
 
 # ---- as another user: root becomes nobody; whoever is not root cannot, and takes away the right to write instead
+mkdir "$tmp/room"
+chmod 777 "$tmp/room"
 if [ "$(id -u)" = 0 ]; then
-    as_other() { setpriv --reuid=65534 --regid=65534 --clear-groups "$@"; }
-    setpriv --reuid=65534 --regid=65534 --clear-groups true 2>/dev/null || as_other() { su -s /bin/sh nobody -c 'exec "$@"' sh sh -c 'exec "$@"' sh "$@"; }
+    as_other() { TMPDIR="$tmp/room" setpriv --reuid=65534 --regid=65534 --clear-groups "$@"; }
 else
     as_other() { "$@"; }
 fi
 
 # ---- arguments and exit status, of a clone's scripts and of the installed ones
+unreadable() { # LIST
+    try 2 "a file that may not be read" as_other "$1" "$in/unreadable"
+    says 'may not be read'
+    silent
+}
 # front RUN LIST WHERE
 front() {
     run=$1 list=$2 where=$3
@@ -125,10 +134,8 @@ front() {
             [ "$(cat "$tmp/pipe")" = 2 ] || wrong "$where: a closed pipe: exit status $(cat "$tmp/pipe"), expected 2"
         done
     done
-    cp "$saved" "$tmp/unreadable"
-    chmod 000 "$tmp/unreadable"
-    try 2 "$where: a file that may not be read" as_other "$list" "$tmp/unreadable"
-    says 'may not be read'
+    # Root may read everything, so another user is needed, who may not reach the clone itself: its copy below is tried.
+    [ "$where" = clone ] || unreadable "$list"
 
     listed=$top/crates/lister/stdout
     ran=$top/crates/runner/stdout
@@ -256,7 +263,7 @@ says 'proving 5 of 5: lister'
 [ ! -e "$clone/target/lock.held" ] || wrong "$what: the lock is still held"
 
 # ---- another user, who may not write
-chmod -R go+rX "$clone" "$in"
+chmod -R go+rX "$clone"
 [ "$(id -u)" = 0 ] || chmod -R a-w "$clone"
 if as_other sh -c ': >"$1/written"' sh "$clone" 2>/dev/null; then
     wrong "the copy of the clone can be written by another user, so nothing was tried"
@@ -266,15 +273,14 @@ prints "$listed"
 quiet
 try 1 "another user, refused" as_other "$clone/list" "$in/cut"
 says '^bad record 700: '
+unreadable "$clone/list"
 chmod -R u+w "$clone"
 sleep 1
 touch "$clone/crates/state/src/lib.rt"
 [ "$(id -u)" = 0 ] || chmod -R a-w "$clone"
-given=0
-(PATH="$tmp/stand-in:$PATH"; as_other "$clone/list" "$in/packed") >"$tmp/out" 2>"$tmp/err" || given=$?
-[ $given -eq 2 ] || wrong "another user, and something is to be built: exit status $given, expected 2"
-what="another user, and something is to be built"
+try 2 "another user, and something is to be built" as_other env PATH="$tmp/stand-in:$PATH" "$clone/list" "$in/packed"
 says 'may not write'
+silent
 
 # ---- the real rt: nothing has changed but a time
 if command -v rt >/dev/null 2>&1 && [ -w target ]; then
