@@ -43,6 +43,7 @@ up_to_date() {
 # lock, unlock: one build at a time in this clone.
 lock() {
     if command -v flock >/dev/null 2>&1; then
+        (: >>"$home/target/lock") 2>/dev/null || fail "$home/target/lock may not be written by you"
         exec 9>>"$home/target/lock"
         flock -n 9 || { complain "another build is under way here: waiting for it"; flock 9; }
     else
@@ -68,20 +69,30 @@ unlock() {
     held=
 }
 
-# prove NAME: rt check, level by level, so that what is being proved can be said before it is.
+# prove NAME: rt check, as many crates of a level at a time as rt itself takes, so that what is being proved can be said before it is.
 prove() {
+    pv_jobs=${RT_JOBS:-$(nproc 2>/dev/null || echo 1)}
+    [ "$pv_jobs" -le 4 ] || [ -n "${RT_JOBS:-}" ] || pv_jobs=4
     pv_plan=$(plan "$1")
-    pv_all=$(printf '%s\n' "$pv_plan" | wc -l)
-    pv_at=0
-    for pv_level in $(printf '%s\n' "$pv_plan" | sed 's/:.*//' | uniq); do
-        pv_crates=$(printf '%s\n' "$pv_plan" | sed -n "s/^$pv_level://p")
-        for pv_crate in $pv_crates; do
-            pv_at=$((pv_at + 1))
-            complain "proving $pv_at of $((pv_all)): $pv_crate"
-        done
+    pv_all=$(($(printf '%s\n' "$pv_plan" | wc -l)))
+    pv_at=0 pv_level= pv_now=
+    for pv_item in $pv_plan; do
         # shellcheck disable=SC2086
-        (cd "$home" && rt check $pv_crates) </dev/null >"$home/target/build.log" 2>&1 9>&- || return 1
+        if [ "${pv_item%%:*}" != "$pv_level" ] || [ "$(set -- $pv_now && echo $#)" -ge "$pv_jobs" ]; then
+            check $pv_now || return 1
+            pv_now=
+        fi
+        pv_level=${pv_item%%:*}
+        pv_at=$((pv_at + 1))
+        pv_now="$pv_now ${pv_item#*:}"
+        complain "proving $pv_at of $pv_all: ${pv_item#*:}"
     done
+    # shellcheck disable=SC2086
+    check $pv_now
+}
+check() {
+    [ $# -gt 0 ] || return 0
+    (cd "$home" && rt check "$@") </dev/null >"$home/target/build.log" 2>&1 9>&-
 }
 
 # build KIND NAME: KIND is program or archive. Returns once target/bin/NAME or target/staticlib/libNAME.a is up to date, or ends.

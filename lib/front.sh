@@ -8,15 +8,22 @@ export LC_ALL
 . "$home/lib/say.sh"
 
 case $program in
-runner) argument=JOB what="the job in JOB: a saved state, then instruction records" ;;
-*) argument=FILE what="the saved state in FILE" ;;
+runner)
+    argument=JOB
+    does="Runs the job in JOB: a saved state, then instruction records. Prints the number that the
+queue got and what stands beside it and then, if it was done, the listing of the new state."
+    ;;
+*)
+    argument=FILE
+    does="Lists the saved state in FILE."
+    ;;
 esac
-case $program in
-runner) does="Runs $what. Prints the number that the queue got and what
-stands beside it, then, if it was done, the listing of the new state." ;;
-*) does="Lists $what." ;;
-esac
-if [ -f "$home/crates.txt" ]; then called=./$name formats=docs/FORMATS.md; else called=kujawian-$name name=kujawian-$name formats=share/doc/kujawian/FORMATS.md; fi
+if [ -f "$home/crates.txt" ]; then
+    called=./$name formats=docs/FORMATS.md
+else
+    name=kujawian-$name
+    called=$name formats=share/doc/kujawian/FORMATS.md
+fi
 
 usage() {
     cat <<END
