@@ -98,7 +98,7 @@ if [ -n "$file" ]; then
     exec <"$file"
 else
     said="standard input"
-    (: <&0) 2>/dev/null || fail "$said is closed"
+    (: 3<&0) 2>/dev/null || fail "$said is closed"
 fi
 
 # ---- the program

@@ -127,7 +127,7 @@ front() {
         try 2 "$where: --help to /dev/full" sh -c '"$1" --help >/dev/full' sh "$program"
         try 2 "$where: output closed" sh -c '"$1" "$2" >&-' sh "$program" "$job"
         says 'could not be written'
-        try 2 "$where: input closed" sh -c '"$1" - <&-' sh "$program"
+        try 2 "$where: input closed" timeout 60 sh -c '"$1" - <&-' sh "$program"
         for signal in - "''"; do
             sh -c 'trap '"$signal"' PIPE; { sleep 0.3; "$1" "$2" 2>"$3/pipe.err"; echo $? >"$3/pipe"; } | :' sh "$program" "$saved" "$tmp"
             tried=$((tried + 1))
