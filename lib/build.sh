@@ -69,17 +69,18 @@ unlock() {
     held=
 }
 
-# prove NAME: rt check, as many crates of a level at a time as rt itself takes, so that what is being proved can be said before it is.
+# prove KIND NAME: rt check, as many crates of a level at a time as rt itself takes, so that what is being proved can be said before it is.
+# The last one is NAME, alone.
 prove() {
     pv_jobs=${RT_JOBS:-$(nproc 2>/dev/null || echo 1)}
     [ "$pv_jobs" -le 4 ] || [ -n "${RT_JOBS:-}" ] || pv_jobs=4
-    pv_plan=$(plan "$1")
+    pv_plan=$(plan "$2")
     pv_all=$(($(printf '%s\n' "$pv_plan" | wc -l)))
     pv_at=0 pv_level= pv_now=
     for pv_item in $pv_plan; do
         # shellcheck disable=SC2086
         if [ "${pv_item%%:*}" != "$pv_level" ] || [ "$(set -- $pv_now && echo $#)" -ge "$pv_jobs" ]; then
-            check $pv_now || return 1
+            call_rt check $pv_now || return 1
             pv_now=
         fi
         pv_level=${pv_item%%:*}
@@ -87,34 +88,36 @@ prove() {
         pv_now="$pv_now ${pv_item#*:}"
         complain "proving $pv_at of $pv_all: ${pv_item#*:}"
     done
-    # shellcheck disable=SC2086
-    check $pv_now
+    case $1 in
+    program) call_rt check "$2" ;;
+    archive) call_rt staticlib "$2" ;;
+    esac
 }
-check() {
-    [ $# -gt 0 ] || return 0
-    (cd "$home" && rt check "$@") </dev/null >"$home/target/build.log" 2>&1 9>&-
+call_rt() {
+    [ $# -gt 1 ] || return 0
+    (cd "$home" && rt "$@") </dev/null >"$home/target/build.log" 2>&1 9>&-
 }
 
 # build KIND NAME: KIND is program or archive. Returns once target/bin/NAME or target/staticlib/libNAME.a is up to date, or ends.
 build() {
     case $1 in
-    program) bd_made=$home/target/bin/$2 bd_also=$home/target/stamp/$2 ;; # rt's own mark: removed while it builds, there when all is well
-    archive) bd_made=$home/target/staticlib/lib$2.a bd_also=$bd_made ;;
+    program) bd_what="the $2" bd_made=$home/target/bin/$2 bd_also=$home/target/stamp/$2 ;; # rt's own mark: removed while it builds
+    archive) bd_what=lib$2.a bd_made=$home/target/staticlib/lib$2.a bd_also=$bd_made ;;
     esac
     bd_mark=$home/target/built/$2.$1
     up_to_date "$2" "$bd_made" "$bd_mark" "$bd_also" && return 0
     command -v rt >/dev/null 2>&1 ||
-        fail "the $2 has to be built, and there is no rt on the path: the Rattle kit is missing (README.md, \"Run it\")"
+        fail "$bd_what has to be built, and there is no rt on the path: the Rattle kit is missing (README.md, \"Run it\")"
     mkdir -p "$home/target/built" 2>/dev/null && [ -w "$home/target" ] && [ -w "$home/target/built" ] ||
-        fail "the $2 has to be built, and you may not write in $home/target"
+        fail "$bd_what has to be built, and you may not write in $home/target"
     lock
     if ! up_to_date "$2" "$bd_made" "$bd_mark" "$bd_also"; then
-        complain "building the $2; the first time it takes some minutes"
+        complain "building $bd_what; the first time it takes some minutes"
         rm -f "$bd_mark"
         : >"$bd_mark.new"
-        if ! prove "$2" || { [ "$1" = archive ] && ! (cd "$home" && rt staticlib "$2") </dev/null >"$home/target/build.log" 2>&1 9>&-; }; then
+        if ! prove "$1" "$2"; then
             tail -n 20 "$home/target/build.log" | cut -c 1-300 >&2
-            fail "the $2 could not be built; $home/target/build.log has all that was said"
+            fail "$bd_what could not be built; $home/target/build.log has all that was said"
         fi
         mv "$bd_mark.new" "$bd_mark"
         complain "built"
