@@ -329,8 +329,11 @@ static void row(const char *work, const char *unit, passes *timed, call *put, in
     for (int side = 0; side < 2; side++)
         group_time[side] += best[side] * scale;
     group_rows++;
-    printf("| %s | %s | %s | %.2f | %.2f | %.2f |\n", group, work, unit,
-           best[0] * scale, best[1] * scale, best[0] / best[1]);
+    /* The row's name says the VLR where the work goes by it. */
+    printf("| %s | %s", group, work);
+    if (put == call_execute || put == call_run || put == call_run_order)
+        printf(" at VLR %d", vlr);
+    printf(" | %s | %.2f | %.2f | %.2f |\n", unit, best[0] * scale, best[1] * scale, best[0] / best[1]);
     fflush(stdout);
 }
 
@@ -624,13 +627,10 @@ static void queues(void)
     begin("short queue");
     for (vlr = 4; vlr <= 8; vlr += 4)
         for (int q = 0; q < TIMED; q++) {
-            char work[80];
             use_queue(q);
-            snprintf(work, sizeof work, "%s at VLR %d", queues_timed[q].straight, vlr);
-            row(work, "element", passes_run, call_run, STATES, QUEUE * vlr, 0, 0);
+            row(queues_timed[q].straight, "element", passes_run, call_run, STATES, QUEUE * vlr, 0, 0);
             random_orders();
-            snprintf(work, sizeof work, "%s at VLR %d", queues_timed[q].lists[2], vlr);
-            by_list(work, ORDERS * STATES);
+            by_list(queues_timed[q].lists[2], ORDERS * STATES);
         }
     vlr = 64;
     use_queue(1);

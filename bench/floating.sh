@@ -3,11 +3,9 @@
 # KUJAWIAN_ARCHIVES names a folder that already holds libfloating_c.a; else it is built.
 set -eu
 cd "$(dirname "$0")/.."
-archives=${KUJAWIAN_ARCHIVES:-}
-if [ -z "$archives" ]; then
-    rt staticlib floating_c
-    archives=target/staticlib
-fi
+home=$PWD name=bench/floating.sh
+. lib/build.sh
+find_archive floating_c
 mkdir -p target/bench
 gcc -std=c11 -O2 -Wall -Wextra -o target/bench/floating bench/floating.c "$archives/libfloating_c.a"
 exec target/bench/floating

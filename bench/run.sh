@@ -9,11 +9,9 @@
 # seconds beside that.
 set -eu
 cd "$(dirname "$0")/.."
-archives=${KUJAWIAN_ARCHIVES:-}
-if [ -z "$archives" ]; then
-    rt staticlib kujawian >&2
-    archives=target/staticlib
-fi
+home=$PWD name=bench/run.sh
+. lib/build.sh
+find_archive kujawian
 out=target/bench
 mkdir -p "$out"
 compile() {

@@ -3,11 +3,9 @@
 # KUJAWIAN_ARCHIVES names a folder that already holds libkujawian.a; else it is proved and built.
 set -eu
 cd "$(dirname "$0")/.."
-archives=${KUJAWIAN_ARCHIVES:-}
-if [ -z "$archives" ]; then
-    rt staticlib kujawian
-    archives=target/staticlib
-fi
+home=$PWD name=examples/build.sh
+. lib/build.sh
+find_archive kujawian
 mkdir -p target/examples
 gcc -std=c11 -O2 -Wall -Wextra -pedantic -Iinclude -o target/examples/kettle examples/kettle.c \
     "$archives/libkujawian.a"

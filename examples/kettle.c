@@ -8,10 +8,11 @@
  * zone moves an eighth of the way to its heater.
  *
  * Exit status: 0; 1 if a call was refused (its number and what stands beside it are printed); 2 if the
- * file could not be read.
+ * file could not be read (standard error says why).
  */
 #include "kujawian.h"
 
+#include <errno.h>
 #include <inttypes.h>
 #include <stdio.h>
 #include <string.h>
@@ -81,12 +82,16 @@ int main(int argc, char **argv)
     static uint8_t saved[KUJ_FILE_BYTES + 1]; /* one more, so that a file too long is seen as such */
     uint64_t beside;
 
-    FILE *file = argc == 2 ? fopen(argv[1], "rb") : NULL;
-    if (file == NULL) {
+    if (argc != 2) {
         fprintf(stderr, "usage: kettle SAVED\n");
         return 2;
     }
-    size_t length = fread(saved, 1, sizeof saved, file);
+    FILE *file = fopen(argv[1], "rb");
+    size_t length = file == NULL ? 0 : fread(saved, 1, sizeof saved, file);
+    if (file == NULL || ferror(file)) {
+        fprintf(stderr, "kettle: %s: %s\n", argv[1], strerror(errno));
+        return 2;
+    }
     fclose(file);
     uint32_t number = kuj_load(elements, &control, saved, length, &beside);
     if (number != 0)

@@ -3,11 +3,9 @@
 # KUJAWIAN_ARCHIVES names a folder that already holds libkujawian.a; else it is built.
 set -eu
 cd "$(dirname "$0")/.."
-archives=${KUJAWIAN_ARCHIVES:-}
-if [ -z "$archives" ]; then
-    rt staticlib kujawian
-    archives=target/staticlib
-fi
+home=$PWD name=tests/also_run.sh
+. lib/build.sh
+find_archive kujawian
 gcc -O2 -std=c11 -Wall -Wextra -Iinclude -o target/also_run tests/also_run.c "$archives/libkujawian.a"
 target/also_run >target/also_run.out
 cmp target/also_run.out tests/also_run.expected

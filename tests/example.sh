@@ -49,5 +49,15 @@ dd if="$out/worked.saved" of="$out/cut.saved" bs=11207 count=1 2> "$out/dd.log"
 echo 'load: refused, number 10, beside it 700' > "$out/cut.expected"
 run cut 1
 
+# What cannot be read: the reason on standard error, and 2.
+for unread in "$out/nosuch" "$out"; do
+    given=0
+    "$out/kettle" "$unread" >"$out/unread.given" 2>"$out/unread.said" || given=$?
+    if [ "$given" -ne 2 ] || [ -s "$out/unread.given" ] || ! grep -qE '^kettle: .*: (No such file|Is a directory)' "$out/unread.said"; then
+        echo "DIFFERS: kettle on $unread (exit status $given, expected 2) says: $(cat "$out/unread.said")"
+        status=1
+    fi
+done
+
 [ $status -eq 0 ] && echo SAME
 exit $status

@@ -6,11 +6,9 @@
 # KUJAWIAN_ARCHIVES names a folder that already holds libkujawian.a; else it is built.
 set -eu
 cd "$(dirname "$0")/.."
-archives=${KUJAWIAN_ARCHIVES:-}
-if [ -z "$archives" ]; then
-    rt staticlib kujawian
-    archives=target/staticlib
-fi
+home=$PWD name=tests/header.sh
+. lib/build.sh
+find_archive kujawian
 out=target/header
 mkdir -p "$out"
 
