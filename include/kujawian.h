@@ -63,9 +63,9 @@ extern "C" {
 /* ---- Version ---- */
 
 #define KUJ_VERSION_MAJOR 0
-#define KUJ_VERSION_MINOR 10
+#define KUJ_VERSION_MINOR 12
 #define KUJ_VERSION_PATCH 0
-#define KUJ_VERSION "0.10.0"
+#define KUJ_VERSION "0.12.0"
 
 /* ---- Sizes ---- */
 

@@ -17,6 +17,38 @@ _Static_assert(offsetof(struct kuj_control, vcr) == 16, "VCR is the third");
 _Static_assert(offsetof(struct kuj_control, vaer) == 24, "VAER is the fourth");
 _Static_assert(offsetof(struct kuj_control, vpsr) == 32, "VPSR is the fifth");
 
+// The header's names, against document 01: "Opcodes", in the order of its table, with division's (document 02, Q-1).
+#define IS(NAME, NUMBER) _Static_assert((NAME) == (NUMBER), #NAME)
+#define BOTH(NAME, VECTOR, SCALAR) IS(KUJ_VV##NAME, VECTOR); IS(KUJ_VS##NAME, SCALAR)
+BOTH(ADDL, 0x80, 0x81); BOTH(SUBL, 0x88, 0x89); BOTH(MULL, 0xA0, 0xA1); BOTH(CMPL, 0xC0, 0xC1);
+BOTH(BISL, 0xC8, 0xC9); BOTH(XORL, 0xE8, 0xE9); BOTH(BICL, 0xCC, 0xCD);
+BOTH(SRLL, 0xE0, 0xE1); BOTH(SLLL, 0xE4, 0xE5);
+BOTH(ADDF, 0x84, 0x85); BOTH(SUBF, 0x8C, 0x8D); BOTH(MULF, 0xA4, 0xA5); BOTH(CMPF, 0xC4, 0xC5); BOTH(DIVF, 0xAC, 0xAD);
+IS(KUJ_VVCVT, 0xEC); IS(KUJ_IOTA, 0xED); BOTH(MERGE, 0xEE, 0xEF);
+IS(KUJ_VLDL, 0x34); IS(KUJ_VLDQ, 0x36); IS(KUJ_VGATHL, 0x35); IS(KUJ_VGATHQ, 0x37);
+IS(KUJ_VSTL, 0x9C); IS(KUJ_VSTQ, 0x9E); IS(KUJ_VSCATL, 0x9D); IS(KUJ_VSCATQ, 0x9F);
+// The control word: <15> MOE, <14> MTF, <13> EXC, <11:8> Va or conversion, <7:4> Vb, <3:0> Vc or relation.
+IS(KUJ_MOE, 1 << 15); IS(KUJ_MTF, 1 << 14); IS(KUJ_EXC, 1 << 13);
+IS(KUJ_CNTRL(KUJ_EXC, 0, 2, 5), 0x2025); IS(KUJ_CNTRL(KUJ_MOE | KUJ_MTF, 0xA, 0xB, 0xC), 0xCABC);
+// "Relations in <2:0>: 0 greater, 1 equal, 2 less, 4 less or equal, 5 not equal, 6 greater or equal"; "Conversions: 5 rounded F to L, 4
+// truncated F to L, 1 L to F".
+IS(KUJ_GTR, 0); IS(KUJ_EQL, 1); IS(KUJ_LSS, 2); IS(KUJ_LEQ, 4); IS(KUJ_NEQ, 5); IS(KUJ_GEQ, 6);
+IS(KUJ_CVTRFL, 5); IS(KUJ_CVTFL, 4); IS(KUJ_CVTLF, 1);
+// "Numbers given back".
+IS(KUJ_DONE, 0); IS(KUJ_RESERVED_OPCODE, 1); IS(KUJ_RESERVED_CONTROL_WORD, 2); IS(KUJ_DISABLED, 3); IS(KUJ_WINDOW_NOT_ALLOWED, 4);
+IS(KUJ_MISALIGNED, 5); IS(KUJ_OUTSIDE_WINDOW, 6); IS(KUJ_MEMORY_IN_QUEUE, 7); IS(KUJ_QUEUE_REFUSED, 8); IS(KUJ_ORDER_NOT_PERMITTED, 9);
+IS(KUJ_BAD_FILE, 10); IS(KUJ_VALUE_REFUSED, 11); IS(KUJ_STATE_OUT_OF_RANGE, 12); IS(KUJ_NO_SUCH_FIELD, 13);
+// VAER: bits 0, 1, 2, 3, 5 and 16+n for Vn. VPSR: bit 0 (VEN) and bit 7 (AEX); a write's bit 1.
+IS(KUJ_VAER_UNDERFLOW, 1 << 0); IS(KUJ_VAER_DIVISION_BY_ZERO, 1 << 1); IS(KUJ_VAER_RESERVED_OPERAND, 1 << 2);
+IS(KUJ_VAER_OVERFLOW, 1 << 3); IS(KUJ_VAER_INTEGER_OVERFLOW, 1 << 5);
+IS(KUJ_VAER_REGISTER(0), 1u << 16); IS(KUJ_VAER_REGISTER(15), 1u << 31); IS(KUJ_VAER_BITS, 0xFFFF002F);
+IS(KUJ_VPSR_VEN, 1 << 0); IS(KUJ_VPSR_RST, 1 << 1); IS(KUJ_VPSR_AEX, 1 << 7); IS(KUJ_VPSR_BITS, 0x81);
+// Sizes, places, kinds.
+IS(KUJ_ELEMENTS, 1024); IS(KUJ_REGISTERS, 16); IS(KUJ_REGISTER_LENGTH, 64); IS(KUJ_CONTROL_NUMBERS, 5); IS(KUJ_RECORDS, 1029);
+IS(KUJ_RECORD_BYTES, 16); IS(KUJ_FILE_BYTES, 16464); IS(KUJ_QUEUE_LENGTH, 16); IS(KUJ_ORDER_LENGTH, 1024); IS(KUJ_WINDOW_BYTES, 65536);
+IS(KUJ_PLACE(5, 3), 323); IS(KUJ_STEP(1, 2), 66);
+IS(KUJ_F_FLOATING, 0); IS(KUJ_LONGWORD, 1); IS(KUJ_READ_BINARY64, 0); IS(KUJ_READ_LONGWORD, 1); IS(KUJ_READ_RESERVED, 2);
+
 enum { VEN = 0x01, AEX = 0x80, WINDOW = 8192, FILE_ROOM = KUJ_FILE_BYTES + 16 };
 static const uint64_t UNWRITTEN = 0xDEADBEEF0BADF00D;
 
