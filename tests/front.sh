@@ -1,13 +1,14 @@
 #!/bin/sh
 # The front: what a user meets. Arguments and exit status of the two programs in a clone and as installed; builds: progress, two at once,
 # without rt, by a user who may not write; installing; the same readings from C, C++, Rust and Python. Names what failed; exits with 1.
-# target/bin has to hold both programs, up to date, and target/staticlib the archive.
+# target/bin has to hold both programs, up to date, and target/staticlib the archive. Half a minute. As root it becomes nobody for what
+# another user may do; as anyone else it takes away the right to write instead.
 set -u
 cd "$(dirname "$0")/.." || exit 1
 top=$PWD
 LC_ALL=C
 export LC_ALL
-unset KUJAWIAN_ARCHIVES CDPATH
+unset KUJAWIAN_ARCHIVES CDPATH MAKEFLAGS MFLAGS MAKEOVERRIDES PREFIX DESTDIR CC
 tmp=$(mktemp -d) || exit 1
 chmod 755 "$tmp"
 trap 'chmod -R u+w "$tmp" 2>/dev/null; rm -rf "$tmp"' EXIT
@@ -73,7 +74,7 @@ chmod -R go+rX "$in"
 cp "$saved" "$in/unreadable"
 chmod 000 "$in/unreadable"
 
-# ---- as another user: root becomes nobody; whoever is not root cannot, and takes away the right to write instead
+# ---- as another user
 mkdir "$tmp/room"
 chmod 777 "$tmp/room"
 if [ "$(id -u)" = 0 ]; then

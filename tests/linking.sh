@@ -1,6 +1,6 @@
 #!/bin/sh
-# What the archive needs and gives, for whoever links it: it gives exactly the header's calls, needs memset alone, takes NULL for an empty
-# slice, arrays aligned to their items, and at most 4,096 bytes of stack a call. The stack is counted in the machine code, along every
+# What the archive needs and gives, for whoever links it: it gives exactly the header's calls, needs memset alone, keeps no data, takes NULL
+# for an empty slice, arrays aligned to their items, and at most 4,096 bytes of stack a call. The stack is counted in the machine code, along every
 # chain of calls, and the painted stack of real calls (tests/linking.c) is held to that.
 #   tests/linking.sh [--facts]     --facts: prints each call's stack
 # KUJAWIAN_ARCHIVES names a folder that already holds libkujawian.a; else it is built.
@@ -24,6 +24,11 @@ needs=$(nm -u "$archive" | sed -n 's/^ *U //p' | sort -u)
 lib/calls.sh >"$out/calls"
 nm -g --defined-only "$archive" | sed -n 's/.* T //p' | LC_ALL=C sort >"$out/gives"
 cmp -s "$out/calls" "$out/gives" || say "the archive does not give exactly the calls of the header"
+
+objdump -h "$archive" | awk '$2 ~ /^\.t?(data|bss)/ && $3 !~ /^0+$/ { bad = 1 } END { exit bad }' || say "the archive has data that is written"
+# An aligned vector move, or a vector operation, on memory that is neither the stack's nor a constant would need 16 bytes.
+aligned=$(objdump -d --no-show-raw-insn "$archive" | awk '/%xmm/ && /\(%/ && !/\(%r(sp|ip)/ && $2 !~ /^mov(dqu|up[sd]|s[sd]|[qd]|[lh]p[sd])$/ { print $2 }' | sort -u)
+[ -z "$aligned" ] || say "some array would have to lie at multiples of 16 bytes, for" $aligned
 
 if ! objdump -dr --no-show-raw-insn "$archive" | awk -f tests/stack.awk | LC_ALL=C sort >"$out/counted"; then
     say "the stack could not be counted"
