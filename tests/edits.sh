@@ -39,6 +39,10 @@ for log in tests/edits/*.log; do
     esac
 done
 
+if [ ! -d target/must-fail ]; then
+    echo "edits: no edit has been tried here; 'rt must-fail' tries them, as the gate does"
+    exit 1
+fi
 bad=0
 for edit in crates/*/must-fail/*.edit; do
     crate=${edit#crates/}
