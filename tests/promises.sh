@@ -1,5 +1,5 @@
 #!/bin/sh
-# docs/PROMISES.md names each must-fail edit, as `CRATE/NAME` in the last column of its table of calls, and no other. Says what stands on one side
+# docs/PROMISES.md names each must-fail edit, as CRATE/`NAME` in the last column of its table of calls, and no other. Says what stands on one side
 # alone.
 set -eu
 cd "$(dirname "$0")/.."
@@ -9,7 +9,15 @@ kept=$(mktemp)
 trap 'rm -f "$named" "$kept"' EXIT
 
 # What stands between backquotes in the last column, a line each. Every such word there is an edit.
-awk -F'|' '/^## / { calls = ($0 == "## The calls") } calls && /^\|/ { n = split($4, part, "`"); for (i = 2; i <= n; i += 2) print part[i] }' docs/PROMISES.md | sort -u >"$named"
+awk -F'|' '
+    /^## / { calls = ($0 == "## The calls") }
+    calls && /^\|/ {
+        n = split($4, part, "`")
+        for (i = 2; i <= n; i += 2) {
+            crate = match(part[i - 1], /[a-z_]+\/$/) ? substr(part[i - 1], RSTART) : ""
+            print crate part[i]
+        }
+    }' docs/PROMISES.md | sort -u >"$named"
 for edit in crates/*/must-fail/*.edit; do
     crate=${edit#crates/}
     echo "${crate%%/*}/$(basename "$edit" .edit)"
