@@ -24,7 +24,8 @@ judged() {
             told()
             if (first ~ /has no (field|`)/ || first ~ /expected type `tie\.Need-/) unfit = 1
             if (unfit) print "the proof no longer fits the code"
-            else if (first ~ /stopped at (the step limit|a bound of its own)/) print "the prover stopped before it knew"
+            else if (first ~ /stopped at (the step limit|a bound of its own)/ && first !~ /no proof of .* was found/)
+                print "the prover stopped before it knew"
             else if (first ~ /^[^ ]*must-fail\/[^ \/]*\/[^ \/]*\/(src|specs)\/[^ ]*: error/) print "the edited source says nothing"
             else if (first == "" && !open) print "no fact is left open"
         }' "$1"
