@@ -5,11 +5,9 @@ use mathlib.Core.Path.{_≡_, refl, sym, ap, ap₂, _∙_}
 use Prim.Native.Nat.{ℕ, zero, suc, _%_, _≤_, _<_}
 use native.Mathlib.Nat.{mod-lt}
 use native.Mathlib.Omega.{arith}
-use borrow.Author.Tests.{eq-eqb, ne-eqb}
 use lib.Bits.{bitOr, or-zero-r}
 use lib.Dec.{ltb, eqb}
 use lib.ListN.{length, length-set, set}
-use lib.Seq.{getD-set-same, getD-set-other}
 use Rattle.numbers.specs.Bits.{bit, withBit}
 use Rattle.numbers.specs.Choice.{pick}
 use Rattle.numbers.proofs.BitLaws.{bit-replaced, bit-kept, decEq}
@@ -29,6 +27,7 @@ use Rattle.machine.specs.Step.{received, registerBit, notes, written, recorded,
 use Rattle.machine.specs.Instruction.{stepOf, stepsBelow, wholeOf, instructionDone}
 use Rattle.machine.proofs.Gather.{noted-both}
 use Rattle.demands.proofs.Ending.{RunEnd, ends-run, halts}
+use Rattle.demands.proofs.Placing.{places-next}
 use Rattle.demands.proofs.Coming.{and-none, and-twice, come, come-not, come-first, come-before, come-now, come-same}
 use Rattle.demands.specs.Two.{receives, recordedBelow, recordedBy, ElementByElement}
 
@@ -151,7 +150,10 @@ module _ (ins : Instruction) (scalar : ℕ) (s : State) (fields : Below ins) whe
           (progress (r .progress .control) (joined (r .progress .gathered) (noted adds))))
       stores m = record {
         long = length-set (r .elements) (placeOf (ins .vc .0) n) (value n) ∙ u .long;
-        elements = λ p i a b. at-element p i a b (decEq p (ins .vc .0)) (decEq i n);
+        elements = λ p i a b.
+            places-next (ins .vc .0) (fields .vc) on (λ _ i. value i) (at (s .elements)) n small (r .elements) (u .long)
+            (λ p i a b. u .elements p i a b ∙ in-register n p i) e p i a b
+            ∙ sym (in-register (suc n) p i);
         mask = λ i. u .mask i ∙ none n i ∙ sym (none (suc n) i);
         vlr = u .vlr;
         vcr = u .vcr;
@@ -163,30 +165,9 @@ module _ (ins : Instruction) (scalar : ℕ) (s : State) (fields : Below ins) whe
           none : (k i : ℕ) → pick (writesMask ins && come on k i) (eqb (value i % 2) 1) (bit (s .control .vmr) i) ≡ bit (s .control .vmr) i
           none k i = rw m refl
 
-          inside : placeOf (ins .vc .0) n < length (r .elements)
-          inside = let c = fields .vc in omega (arith, u .long)
-
-          kept : (p i : ℕ) → (placeOf p i ≡ placeOf (ins .vc .0) n → ⊥) → p < 16 → i < 64 → wrote n p i ≡ wrote (suc n) p i
-              → at (set (r .elements) (placeOf (ins .vc .0) n) (value n)) p i ≡ pick (wrote (suc n) p i) (value i) (at (s .elements) p i)
-          kept p i apart a b same =
-              getD-set-other (r .elements) (placeOf (ins .vc .0) n) (placeOf p i) (value n) 0 apart ∙ u .elements p i a b
-              ∙ ap (λ (t : Bool). pick t (value i) (at (s .elements) p i)) same
-
-          at-element : (p i : ℕ) → p < 16 → i < 64 → Dec (p ≡ ins .vc .0) → Dec (i ≡ n)
-              → at (set (r .elements) (placeOf (ins .vc .0) n) (value n)) p i ≡ pick (wrote (suc n) p i) (value i) (at (s .elements) p i)
-          at-element p i a b (yes h) (yes k) =
-              rw (h, k)
-              (getD-set-same (r .elements) (placeOf (ins .vc .0) n) (value n) 0 inside
-              ∙ sym (pick-true (wrote (suc n) (ins .vc .0) n) _ _
-              (ap₂ (λ (x y : Bool). x && y) (ap₂ (λ (x y : Bool). not x && y) m (eq-eqb (ins .vc .0) (ins .vc .0) refl)) (come-now on n ∙ e))))
-          at-element p i a b (yes h) (no k) =
-              kept p i (λ z. k (omega arith)) a b (ap (λ (t : Bool). (not (writesMask ins) && eqb p (ins .vc .0)) && t) (sym (come-before on n i k)))
-          at-element p i a b (no h) k =
-              kept p i (λ z. h (omega arith)) a b (elsewhere n ∙ sym (elsewhere (suc n)))
-            where
-              elsewhere : (j : ℕ) → wrote j p i ≡ false
-              elsewhere j = ap (λ (t : Bool). not (writesMask ins) && t && come on j i) (ne-eqb p (ins .vc .0) h)
-                  ∙ ap (λ (t : Bool). t && come on j i) (and-none (not (writesMask ins)))
+          in-register : (k p i : ℕ) → pick (wrote k p i) (value i) (at (s .elements) p i)
+              ≡ pick (eqb p (ins .vc .0) && come on k i) (value i) (at (s .elements) p i)
+          in-register k p i = ap (λ (t : Bool). pick (not t && eqb p (ins .vc .0) && come on k i) (value i) (at (s .elements) p i)) m
 
       works : Upto (suc n) (worked ins scalar n r)
       unfolding worked written

@@ -3,6 +3,7 @@ pub mod Keeping
 pub mod CallsKeep
 pub mod One
 pub mod Coming
+pub mod Placing
 pub mod Ending
 pub mod Gathering
 pub mod Elementwise

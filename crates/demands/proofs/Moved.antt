@@ -2,14 +2,13 @@
 use mathlib.Core.Bool.{Bool, true, false, _&&_}
 use mathlib.Core.List.{List, _++_}
 use mathlib.Core.Logic.{_⊎_, inl, inr}
-use mathlib.Core.Path.{_≡_, refl, sym, ap, ap₂, _∙_}
+use mathlib.Core.Path.{_≡_, refl, sym, ap, _∙_}
 use Prim.Native.Nat.{ℕ, zero, suc, _+_, _-_, _/_, _%_, _^_, _≤_, _<_}
 use native.Mathlib.Nat.{div-div-eq-div-mul, mul-comm, pow-suc, div-one}
 use native.Mathlib.Omega.{arith}
-use borrow.Author.Tests.{eq-eqb, ne-eqb}
 use lib.Dec.{eqb}
 use lib.ListN.{length, length-set, getD, set, take, drop, List·getD-append}
-use lib.Seq.{getD-set-same, getD-set-other, getD-append-add, getD-take, getD-drop, length-take-le}
+use lib.Seq.{getD-append-add, getD-take, getD-drop, length-take-le}
 use Rattle.numbers.specs.Bytes.{bytesOf}
 use Rattle.numbers.specs.Choice.{pick}
 use Rattle.numbers.specs.Over.{over}
@@ -17,13 +16,14 @@ use Rattle.numbers.specs.Rising.{rising}
 use Rattle.numbers.proofs.BitLaws.{decEq}
 use Rattle.numbers.proofs.LittleEndian.{bytes-length}
 use Rattle.numbers.proofs.Over.{length-over}
-use Rattle.numbers.proofs.Tests.{pick-true, pick-false}
+use Rattle.numbers.proofs.Tests.{pick-false}
 use Rattle.state.specs.State.{placeOf}
 use Rattle.state.specs.Elements.{at}
 use Rattle.memory.specs.Works.{sizeOf}
 use Rattle.memory.specs.Window.{numberAt, putAt}
 use Rattle.memory.specs.Move.{received, loadStep, storeStep}
-use Rattle.demands.proofs.Coming.{and-none, come, come-not, come-first, come-before, come-now, come-same}
+use Rattle.demands.proofs.Placing.{places-next}
+use Rattle.demands.proofs.Coming.{and-none, come, come-not, come-first, come-same}
 
 -- ---- a load
 module _ (quadword : Bool) (vc : ℕ) (on : ℕ → Bool) (place : ℕ → ℕ) (w l : List ℕ) (register : vc < 16) (count : length l ≡ 1024) where
@@ -50,24 +50,8 @@ module _ (quadword : Bool) (vc : ℕ) (on : ℕ → Bool) (place : ℕ → ℕ) 
     loads : on n ≡ true → Upto (suc n) (set m (placeOf vc n) (gets vc n))
     loads e = record {
       long = length-set m (placeOf vc n) (gets vc n) ∙ u .long;
-      elements = λ p i a b. by p i a b (decEq p vc) (decEq i n);
+      elements = places-next vc register on gets (at l) n small m (u .long) (u .elements) e;
     }
-      where
-        kept : (p i : ℕ) → (placeOf p i ≡ placeOf vc n → ⊥) → p < 16 → i < 64 → (eqb p vc && come on n i) ≡ (eqb p vc && come on (suc n) i)
-            → at (set m (placeOf vc n) (gets vc n)) p i ≡ pick (eqb p vc && come on (suc n) i) (gets p i) (at l p i)
-        kept p i apart a b same =
-            getD-set-other m (placeOf vc n) (placeOf p i) (gets vc n) 0 apart ∙ u .elements p i a b ∙ ap (λ (t : Bool). pick t (gets p i) (at l p i)) same
-
-        by : (p i : ℕ) → p < 16 → i < 64 → Dec (p ≡ vc) → Dec (i ≡ n)
-            → at (set m (placeOf vc n) (gets vc n)) p i ≡ pick (eqb p vc && come on (suc n) i) (gets p i) (at l p i)
-        by p i a b (yes h) (yes k) =
-            rw (h, k)
-            (getD-set-same m (placeOf vc n) (gets vc n) 0 (omega (arith, register, small, u .long))
-            ∙ sym (pick-true (eqb vc vc && come on (suc n) n) _ _ (ap₂ (λ (x y : Bool). x && y) (eq-eqb vc vc refl) (come-now on n ∙ e))))
-        by p i a b (yes h) (no k) = kept p i (λ z. k (omega arith)) a b (ap (λ (t : Bool). eqb p vc && t) (sym (come-before on n i k)))
-        by p i a b (no h) k =
-            kept p i (λ z. h (omega arith)) a b
-            (ap (λ (t : Bool). t && come on n i) (ne-eqb p vc h) ∙ sym (ap (λ (t : Bool). t && come on (suc n) i) (ne-eqb p vc h)))
 
     stepped : Upto (suc n) (loadStep quadword vc on place w n m)
     unfolding loadStep
