@@ -10,3 +10,4 @@ pub mod Rising
 pub mod SetBits
 pub mod Sets
 pub mod Tests
+pub mod Unions

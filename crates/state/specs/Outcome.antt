@@ -4,9 +4,10 @@ use Prim.Native.Nat.{ℕ}
 use Rattle.state.specs.declared.answer.Answer.{Answer}
 use Rattle.state.specs.declared.Control.{Control}
 use Rattle.state.specs.Answer.{numbers}
+use Rattle.state.specs.Marks.{Marked, marked}
 use Rattle.state.specs.State.{State, state}
 
--- the answer, and what the call leaves of what it may alter: the control record, the state, or the state with a window
+-- the answer, and what the call leaves of what it may alter: the control record, the state, with its marks, or these with a window
 pub record Outcome (A : Type 0) : Type 0 where
   pub answer : Answer
   pub left : A
@@ -30,10 +31,14 @@ refused a c = outcome a (afterRefusal a c)
 abbrev pub refusedState : Answer → State → Outcome State
 refusedState a s = outcome a (state (s .elements) (afterRefusal a (s .control)))
 
+-- on a state with its marks: "A refused call changes no mark."
+abbrev pub refusedMarked : Answer → Marked → Outcome Marked
+refusedMarked a b = outcome a (marked (refusedState a (b .state) .left) (b .marks))
+
 -- on lent bytes, which stay
 abbrev pub refusedBytes : Answer → List ℕ → Outcome (List ℕ)
 refusedBytes a bytes = outcome a bytes
 
--- on a state and a window: its bytes stay
-abbrev pub refusedWindow : Answer → State → List ℕ → Outcome (State × List ℕ)
-refusedWindow a s w = outcome a (state (s .elements) (afterRefusal a (s .control)), w)
+-- on a state with its marks and a window: its bytes stay
+abbrev pub refusedWindow : Answer → Marked → List ℕ → Outcome (Marked × List ℕ)
+refusedWindow a b w = outcome a (refusedMarked a b .left, w)

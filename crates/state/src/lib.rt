@@ -1,9 +1,10 @@
-// The state: register and element numbers, and the control record with its range test. And what every call on it gives back.
+// The state: register and element numbers, and the control record with its range test. And the marks beside it, and what every call gives back.
 ghost use mathlib.Core.Path.{_≡_};
 ghost use Prim.Native.Nat.{_<_};
 ghost use Rattle.state.specs.State.{placeOf, lengthInRange, vaerInRange, vpsrInRange, inRange, enabled as enabledOf};
 
 pub mod answer;
+pub mod marks;
 
 // The number of a vector register, 0 to 15. It is as wide as an index, so that any number a caller names is tested and none is cut.
 pub struct Register(pub usize);
