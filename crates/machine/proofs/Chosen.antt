@@ -20,7 +20,7 @@ use Rattle.state.specs.declared.Control.{Control}
 use Rattle.state.specs.State.{placeOf, withVmr}
 use Rattle.opcodes.specs.declared.Instruction.{Instruction}
 use Rattle.opcodes.specs.Opcodes.{writesMask, inOneStep}
-use Rattle.machine.specs.Run.{Run, run, progress}
+use Rattle.machine.specs.Run.{Run, run}
 use Rattle.machine.specs.Step.{received, written, worked, elementStep}
 use Rattle.opcodes.specs.Masking.{operated}
 use Rattle.opcodes.specs.Working.{OperatedSet}
@@ -34,7 +34,7 @@ one-step : (ins : Instruction) (scalar : ℕ) (r : Run) → inOneStep ins ≡ tr
 unfolding wholeOf stepsBelow stepOf
 one-step ins scalar r e =
     sym
-    (ap (λ (t : Bool). stepsBelow (pick t 1 (r .progress .control .vlr)) ins scalar r) e
+    (ap (λ (t : Bool). stepsBelow (pick t 1 (r .control .vlr)) ins scalar r) e
     ∙ ap (λ (t : Bool). pick t (iotaStep ins scalar r) (elementStep ins scalar 0 r)) e)
 
 -- ---- the work of element i leaves VLR as it was, and of VMR all but bit i
@@ -42,22 +42,22 @@ module _ (ins : Instruction) (scalar i : ℕ) (r : Run) where
   abbrev writes : Bool → ℕ → Run
   writes t v =
       pick t
-      (run (r .elements) (progress (withVmr (r .progress .control) (withBit (r .progress .control .vmr) i (v % 2))) (r .progress .gathered)))
-      (run (set (r .elements) (placeOf (ins .vc .0) i) v) (r .progress))
+      (run (r .elements) (withVmr (r .control) (withBit (r .control .vmr) i (v % 2))) (r .gathered))
+      (run (set (r .elements) (placeOf (ins .vc .0) i) v) (r .control) (r .gathered))
 
-  written-vlr : (t : Bool) (v : ℕ) → writes t v .progress .control .vlr ≡ r .progress .control .vlr
+  written-vlr : (t : Bool) (v : ℕ) → writes t v .control .vlr ≡ r .control .vlr
   written-vlr true v = refl
   written-vlr false v = refl
 
-  written-bit : (t : Bool) (v j : ℕ) → (j ≡ i → ⊥) → bit (writes t v .progress .control .vmr) j ≡ bit (r .progress .control .vmr) j
-  written-bit true v j other = bit-kept (r .progress .control .vmr) i (v % 2) (mod-lt v (omega arith)) j other
+  written-bit : (t : Bool) (v j : ℕ) → (j ≡ i → ⊥) → bit (writes t v .control .vmr) j ≡ bit (r .control .vmr) j
+  written-bit true v j other = bit-kept (r .control .vmr) i (v % 2) (mod-lt v (omega arith)) j other
   written-bit false v j other = refl
 
-  keeps-vlr : worked ins scalar i r .progress .control .vlr ≡ r .progress .control .vlr
+  keeps-vlr : worked ins scalar i r .control .vlr ≡ r .control .vlr
   unfolding worked written
   keeps-vlr = written-vlr (writesMask ins) (received ins scalar i r .value)
 
-  keeps-bit : (j : ℕ) → (j ≡ i → ⊥) → bit (worked ins scalar i r .progress .control .vmr) j ≡ bit (r .progress .control .vmr) j
+  keeps-bit : (j : ℕ) → (j ≡ i → ⊥) → bit (worked ins scalar i r .control .vmr) j ≡ bit (r .control .vmr) j
   unfolding worked written
   keeps-bit j other = written-bit (writesMask ins) (received ins scalar i r .value) j other
 
@@ -66,34 +66,34 @@ module _ (ins : Instruction) (scalar which : ℕ) (r : Run) where
   abbrev after : ℕ → Run
   after n = rising (ofOnes (worked ins scalar) which) n r
 
-  stays-vlr : (n : ℕ) → after n .progress .control .vlr ≡ r .progress .control .vlr
+  stays-vlr : (n : ℕ) → after n .control .vlr ≡ r .control .vlr
   unfolding rising ofOnes
   stays-vlr zero = refl
   stays-vlr (suc n) = at (bit which n) ∙ stays-vlr n
     where
-      at : (t : Bool) → pick t (worked ins scalar n (after n)) (after n) .progress .control .vlr ≡ after n .progress .control .vlr
+      at : (t : Bool) → pick t (worked ins scalar n (after n)) (after n) .control .vlr ≡ after n .control .vlr
       at true = keeps-vlr ins scalar n (after n)
       at false = refl
 
-  stays-bit : (n j : ℕ) → n ≤ j → bit (after n .progress .control .vmr) j ≡ bit (r .progress .control .vmr) j
+  stays-bit : (n j : ℕ) → n ≤ j → bit (after n .control .vmr) j ≡ bit (r .control .vmr) j
   unfolding rising ofOnes
   stays-bit zero j h = refl
   stays-bit (suc n) j h = at (bit which n) ∙ stays-bit n j (omega arith)
     where
-      at : (t : Bool) → bit (pick t (worked ins scalar n (after n)) (after n) .progress .control .vmr) j ≡ bit (after n .progress .control .vmr) j
+      at : (t : Bool) → bit (pick t (worked ins scalar n (after n)) (after n) .control .vmr) j ≡ bit (after n .control .vmr) j
       at true = keeps-bit ins scalar n (after n) j (λ e. omega arith)
       at false = refl
 
 -- ---- the set of the elements that an instruction operates on
-module _ (ins : Instruction) (scalar all : ℕ) (r : Run) (short : r .progress .control .vlr ≤ 64) where
+module _ (ins : Instruction) (scalar all : ℕ) (r : Run) (short : r .control .vlr ≤ 64) where
   abbrev Operated : Type 0
-  Operated = OperatedSet ins (r .progress .control .vlr) (r .progress .control .vmr) all
+  Operated = OperatedSet ins (r .control .vlr) (r .control .vmr) all
 
   module _ (set : Operated) where
     -- each step finds its element operated on exactly where the set has it
-    operated-here : (n : ℕ) (c : Control) → c .vlr ≡ r .progress .control .vlr → bit (c .vmr) n ≡ bit (r .progress .control .vmr) n
+    operated-here : (n : ℕ) (c : Control) → c .vlr ≡ r .control .vlr → bit (c .vmr) n ≡ bit (r .control .vmr) n
         → operated ins c n ≡ bit all n
-    operated-here = is-operated ins (r .progress .control .vlr) (r .progress .control .vmr) all set
+    operated-here = is-operated ins (r .control .vlr) (r .control .vmr) all set
 
     module _ (no-iota : inOneStep ins ≡ false) where
       of-element : (n : ℕ) (x : Run) → stepOf ins scalar n x ≡ elementStep ins scalar n x
@@ -108,7 +108,7 @@ module _ (ins : Instruction) (scalar all : ℕ) (r : Run) (short : r .progress .
           ap (stepOf ins scalar n) (same-steps n)
           ∙ of-element n here
           ∙ ap (λ (t : Bool). pick t (worked ins scalar n here) here)
-          (operated-here n (here .progress .control) (stays-vlr ins scalar all r n) (stays-bit ins scalar all r n n (le-refl n)))
+          (operated-here n (here .control) (stays-vlr ins scalar all r n) (stays-bit ins scalar all r n n (le-refl n)))
         where
           here : Run
           here = after ins scalar all r n
@@ -118,18 +118,18 @@ module _ (ins : Instruction) (scalar all : ℕ) (r : Run) (short : r .progress .
       all-steps =
           sym (settles (ofOnes (worked ins scalar) all) (after ins scalar all r vlr) r vlr 64 short
           (λ j h _. pick-false (bit all j) (worked ins scalar j (after ins scalar all r vlr)) (after ins scalar all r vlr)
-          (none-past ins vlr (r .progress .control .vmr) all set j h)) refl)
+          (none-past ins vlr (r .control .vmr) all set j h)) refl)
           ∙ sym (same-steps vlr)
           ∙ ap (λ (t : Bool). stepsBelow (pick t 1 vlr) ins scalar r) (sym no-iota)
         where
           vlr : ℕ
-          vlr = r .progress .control .vlr
+          vlr = r .control .vlr
 
     -- the step of one element: its work, or nothing
     module _ (i : ℕ) (no-iota : inOneStep ins ≡ false) where
       its-step : (t : Bool) → bit all i ≡ t → pick t (worked ins scalar i r) r ≡ stepOf ins scalar i r
       unfolding elementStep
-      its-step t e = sym (of-element no-iota i r ∙ ap (λ (u : Bool). pick u (worked ins scalar i r) r) (operated-here i (r .progress .control) refl refl ∙ e))
+      its-step t e = sym (of-element no-iota i r ∙ ap (λ (u : Bool). pick u (worked ins scalar i r) r) (operated-here i (r .control) refl refl ∙ e))
 
       pub taken : bit all i ≡ true → worked ins scalar i r ≡ stepOf ins scalar i r
       taken e = its-step true e

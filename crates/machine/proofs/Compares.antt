@@ -30,14 +30,14 @@ use Rattle.element.specs.Working.{isCompare, compareWorks}
 use Rattle.element.proofs.Groups.{compare-types}
 use Rattle.element.proofs.Opposites.{opposite-types, opposite-bit}
 use Rattle.machine.specs.declared.Effect.{Effect}
-use Rattle.machine.specs.declared.Progress.{Progress}
-use Rattle.machine.specs.declared.Gathered.{Gathered}
-use Rattle.machine.specs.Run.{Run, run, progress, noted, joined}
+use Rattle.machine.specs.Run.{Gathered, Run, run, added, joined}
+use Rattle.state.specs.declared.Control.{Control}
+use Rattle.state.specs.Marks.{oneElement}
 use Rattle.state.specs.State.{withVmr, withVcr}
-use Rattle.machine.specs.Step.{first, second, chooses, received, registerBit, notes, written, recorded, worked}
+use Rattle.machine.specs.Step.{first, second, chooses, received, registerBit, notes, written, marking, recorded, worked}
 use Rattle.machine.specs.Iota.{iotaStep}
 use Rattle.machine.specs.Working.{operandAt, comparedAt, oddFrom, OddBelow, effected, doneFor}
-use Rattle.machine.proofs.Gather.{joined-nothing, noted-twice}
+use Rattle.machine.proofs.Gather.{joined-nothing, joined-twice}
 
 -- ---- the set that the loop makes
 pub odd-small : (v : ℕ → ℕ) (i n : ℕ) → oddFrom v i n < 2 ^ n
@@ -151,28 +151,28 @@ none-of : (s : Bool) → (s && false) ≡ false
 none-of true = refl
 none-of false = refl
 
-record Marks : Type 0 where
+record Mask : Type 0 where
   vmr : ℕ
   types : ℕ
 
-abbrev marks : ℕ → ℕ → Marks
-marks v t = record { vmr = v; types = t }
+abbrev masked : ℕ → ℕ → Mask
+masked v t = record { vmr = v; types = t }
 
-module _ (ins : Instruction) (x which : ℕ) (l : List ℕ) (p : Progress) (small : ins .work < 256) (compare : writesMask ins ≡ true) where
+module _ (ins : Instruction) (x which : ℕ) (l : List ℕ) (c : Control) (g : Gathered) (small : ins .work < 256) (compare : writesMask ins ≡ true) where
   is-one : isCompare (ins .work) ≡ true
   is-one = is-compare ins small compare
 
   abbrev pub out : ℕ → Out
   out i = comparedAt (ins .work) (ins .vc .0 % 8) (ins .scalar) ins x l i
 
-  abbrev mark : ℕ → Marks → Marks
-  mark i m = marks (withBit (m .vmr) i (out i .value % 2)) (bitOr (m .types) (notes 0 (out i .types)))
+  abbrev replace : ℕ → Mask → Mask
+  replace i m = masked (withBit (m .vmr) i (out i .value % 2)) (bitOr (m .types) (notes 0 (out i .types)))
 
   -- the run, where the steps have come to m
-  abbrev reached : Marks → Run
-  reached m = run l (progress (withVmr (p .control) (m .vmr)) (joined (p .gathered) (noted (m .types))))
+  abbrev reached : Mask → Run
+  reached m = run l (withVmr c (m .vmr)) (joined g (added (m .types) (ins .vc .0) 0))
 
-  module _ (i : ℕ) (m : Marks) where
+  module _ (i : ℕ) (m : Mask) where
     abbrev given : ℕ → Bool → Out
     given n t =
         resultOf (workAt n) (ins .exc) (fieldBy (rowAt n .holds) ins) (pick (not (rowAt n .obeysMoe)) t false)
@@ -202,22 +202,30 @@ module _ (ins : Instruction) (x which : ℕ) (l : List ℕ) (p : Progress) (smal
         of : ℕ → Out
         of c = resultOf (workAt (ins .work)) (ins .exc) (fieldOf ins) (chooses ins (m .vmr) i) (first ins x l i) (second ins l i) c
 
-    writes : (v : ℕ) → written ins i v (reached m) ≡ run l (progress (withVmr (p .control) (withBit (m .vmr) i (v % 2))) (reached m .progress .gathered))
+    writes : (v : ℕ) → written ins i v (reached m) ≡ run l (withVmr c (withBit (m .vmr) i (v % 2))) (reached m .gathered)
     unfolding written
     writes v = pick-true (writesMask ins) _ _ compare
 
-    one : reached (mark i m) ≡ worked ins x i (reached m)
+    one : reached (replace i m) ≡ worked ins x i (reached m)
     unfolding worked
     one =
         sym
-        (ap (λ (o : Out). recorded (notes (registerBit (writesMask ins) (ins .vc .0)) (o .types)) (written ins i (o .value) (reached m))) receives
-        ∙ ap (λ (t : Bool). recorded (notes (registerBit t (ins .vc .0)) (out i .types)) (written ins i (out i .value) (reached m))) compare
-        ∙ ap (recorded (notes 0 (out i .types))) (writes (out i .value))
-        ∙ ap (λ (g : Gathered). run l (progress (withVmr (p .control) (withBit (m .vmr) i (out i .value % 2))) g))
-        (noted-twice (p .gathered) (m .types) (notes 0 (out i .types))))
+        (ap (λ (o : Out). recorded (added (notes (registerBit (writesMask ins) (ins .vc .0)) (o .types)) (ins .vc .0) (marking ins i))
+        (written ins i (o .value) (reached m))) receives
+        ∙ ap (λ (t : Bool). recorded (added (notes (registerBit t (ins .vc .0)) (out i .types)) (ins .vc .0) (pick t 0 (oneElement i)))
+        (written ins i (out i .value) (reached m))) compare
+        ∙ ap (recorded (added (notes 0 (out i .types)) (ins .vc .0) 0)) (writes (out i .value))
+        ∙ ap (run l (withVmr c (withBit (m .vmr) i (out i .value % 2))))
+        (joined-twice g (m .types) (notes 0 (out i .types)) (ins .vc .0) 0 0))
 
-  starts : reached (marks (p .control .vmr) 0) ≡ run l p
-  starts = ap (λ (g : Gathered). run l (progress (p .control) g)) (joined-nothing (p .gathered))
+  starts : reached (masked (c .vmr) 0) ≡ run l c g
+  starts = ap (run l c) (joined-nothing g (ins .vc .0))
+
+  -- what a compare leaves, where the steps have come to m
+  as-effect : (e : Effect) (m : Mask) → e .vmr ≡ m .vmr → e .vcr ≡ c .vcr → e .notes ≡ m .types → e .wrote ≡ 0 → effected l ins e c g ≡ reached m
+  as-effect e m v k n none =
+      ap₂ (λ (a b : ℕ). run l (withVcr (withVmr c a) (e .vcr)) (joined g (added b (ins .vc .0) (e .wrote)))) v n
+      ∙ ap₂ (λ (a b : ℕ). run l (withVcr (withVmr c (m .vmr)) a) (joined g (added (m .types) (ins .vc .0) b))) k none
 
   -- of one element
   plain : (t : ℕ) → bitOr 0 (notes 0 t) ≡ t
@@ -228,31 +236,30 @@ module _ (ins : Instruction) (x which : ℕ) (l : List ℕ) (p : Progress) (smal
       at true e = sym (eqb-true t 0 e)
       at false e = or-zero-r t
 
-  pub compared-one : (e : Effect) (i : ℕ) → e .vmr ≡ withBit (p .control .vmr) i (out i .value % 2) → e .vcr ≡ p .control .vcr → e .notes ≡ out i .types
-      → run l (effected e p) ≡ worked ins x i (run l p)
-  compared-one e i v c n =
-      let m = mark i (marks (p .control .vmr) 0) in
-      ap₂ (λ (a b : ℕ). run l (progress (withVcr (withVmr (p .control) a) (e .vcr)) (joined (p .gathered) (noted b)))) v (n ∙ sym (plain (out i .types)))
-      ∙ ap (λ (a : ℕ). run l (progress (withVcr (reached m .progress .control) a) (reached m .progress .gathered))) c
-      ∙ one i (marks (p .control .vmr) 0)
+  pub compared-one : (e : Effect) (i : ℕ) → e .vmr ≡ withBit (c .vmr) i (out i .value % 2) → e .vcr ≡ c .vcr → e .notes ≡ out i .types → e .wrote ≡ 0
+      → effected l ins e c g ≡ worked ins x i (run l c g)
+  compared-one e i v k n none =
+      let m = replace i (masked (c .vmr) 0) in
+      as-effect e m v k (n ∙ sym (plain (out i .types))) none
+      ∙ one i (masked (c .vmr) 0)
       ∙ ap (worked ins x i) starts
 
-  abbrev after : ℕ → Marks
-  after n = rising (ofOnes mark which) n (marks (p .control .vmr) 0)
+  abbrev after : ℕ → Mask
+  after n = rising (ofOnes replace which) n (masked (c .vmr) 0)
 
-  all : reached (after 64) ≡ rising (ofOnes (worked ins x) which) 64 (run l p)
+  all : reached (after 64) ≡ rising (ofOnes (worked ins x) which) 64 (run l c g)
   all =
-      ones-carry reached mark (worked ins x) which 64 (marks (p .control .vmr) 0) (λ i m _. one i m)
+      ones-carry reached replace (worked ins x) which 64 (masked (c .vmr) 0) (λ i m _. one i m)
       ∙ ap (rising (ofOnes (worked ins x) which) 64) starts
 
   -- bit k of the mask
-  bits : (n k : ℕ) → bit (after n .vmr) k ≡ pick (ltb k n && bit which k) (eqb (out k .value % 2) 1) (bit (p .control .vmr) k)
+  bits : (n k : ℕ) → bit (after n .vmr) k ≡ pick (ltb k n && bit which k) (eqb (out k .value % 2) 1) (bit (c .vmr) k)
   unfolding rising ofOnes
   bits zero k = sym (pick-false (ltb k 0 && bit which k) _ _ (ap (λ (t : Bool). t && bit which k) (le-ltb k 0 (omega arith))))
   bits (suc n) k = at (bit which n) refl (decEq k n) (bits n k)
     where
-      Has : ℕ → Marks → Type 0
-      Has j m = bit (m .vmr) k ≡ pick (ltb k j && bit which k) (eqb (out k .value % 2) 1) (bit (p .control .vmr) k)
+      Has : ℕ → Mask → Type 0
+      Has j m = bit (m .vmr) k ≡ pick (ltb k j && bit which k) (eqb (out k .value % 2) 1) (bit (c .vmr) k)
 
       older : (k ≡ n → ⊥) → ltb k (suc n) ≡ ltb k n
       older q = go (below-or-not k n)
@@ -262,9 +269,9 @@ module _ (ins : Instruction) (x which : ℕ) (l : List ℕ) (p : Progress) (smal
           go (inr h) = le-ltb k (suc n) (omega arith) ∙ sym (le-ltb k n h)
 
       kept : Has n (after n) → (k ≡ n → ⊥) → Has (suc n) (after n)
-      kept b q = b ∙ ap (λ (t : Bool). pick (t && bit which k) (eqb (out k .value % 2) 1) (bit (p .control .vmr) k)) (sym (older q))
+      kept b q = b ∙ ap (λ (t : Bool). pick (t && bit which k) (eqb (out k .value % 2) 1) (bit (c .vmr) k)) (sym (older q))
 
-      at : (t : Bool) → bit which n ≡ t → Dec (k ≡ n) → Has n (after n) → Has (suc n) (pick t (mark n (after n)) (after n))
+      at : (t : Bool) → bit which n ≡ t → Dec (k ≡ n) → Has n (after n) → Has (suc n) (pick t (replace n (after n)) (after n))
       at true e (yes q) b =
           ap (bit (withBit (after n .vmr) n (out n .value % 2))) q
           ∙ bit-replaced (after n .vmr) n (out n .value % 2) (mod-lt (out n .value) (omega arith))
@@ -300,7 +307,7 @@ module _ (ins : Instruction) (x which : ℕ) (l : List ℕ) (p : Progress) (smal
       stays true = refl
       stays false = refl
 
-      at : (t : Bool) → after n .types ≡ pick (none n) 0 4 → (pick t (mark n (after n)) (after n)) .types ≡ pick (none n && not (t && refuses n)) 0 4
+      at : (t : Bool) → after n .types ≡ pick (none n) 0 4 → (pick t (replace n (after n)) (after n)) .types ≡ pick (none n && not (t && refuses n)) 0 4
       at true b = ap (λ (y : ℕ). bitOr y (notes 0 (out n .types))) b ∙ joins (none n) (out n .types) (compare-types (ins .work) is-one _ _ _)
       at false b = b ∙ stays (none n)
 
@@ -347,15 +354,16 @@ module _ (ins : Instruction) (x which : ℕ) (l : List ℕ) (p : Progress) (smal
       (inside : (i : ℕ) → bit which i ≡ true → i < n)
       (is-found : OddBelow (λ i. out i .value) n found)
       (is-refused : OddBelow (λ i. out i .types / 4) n refused)
-      (is-vmr : (k : ℕ) → bit (e .vmr) k ≡ pick (bit which k) (bit found k) (bit (p .control .vmr) k))
-      (is-vcr : e .vcr ≡ p .control .vcr)
+      (is-vmr : (k : ℕ) → bit (e .vmr) k ≡ pick (bit which k) (bit found k) (bit (c .vmr) k))
+      (is-vcr : e .vcr ≡ c .vcr)
       (is-notes : e .notes ≡ pick (eqb (bitAnd refused which) 0) 0 4)
+      (is-none : e .wrote ≡ 0)
     where
       same-mask : e .vmr ≡ after 64 .vmr
       same-mask = same-bits (e .vmr) (after 64 .vmr) (λ k. is-vmr k ∙ at k (bit which k) refl ∙ sym (bits 64 k))
         where
           at : (k : ℕ) (t : Bool) → bit which k ≡ t
-              → pick t (bit found k) (bit (p .control .vmr) k) ≡ pick (ltb k 64 && bit which k) (eqb (out k .value % 2) 1) (bit (p .control .vmr) k)
+              → pick t (bit found k) (bit (c .vmr) k) ≡ pick (ltb k 64 && bit which k) (eqb (out k .value % 2) 1) (bit (c .vmr) k)
           at k true g =
               is-found k (inside k g)
               ∙ sym (pick-true (ltb k 64 && bit which k) _ _ (ap₂ (λ (s u : Bool). s && u) (lt-ltb k 64 (let h = inside k g in omega arith)) g))
@@ -378,10 +386,9 @@ module _ (ins : Instruction) (x which : ℕ) (l : List ℕ) (p : Progress) (smal
               at true g = whole-of (bit refused k) ∙ is-refused k (inside k g)
               at false g = none-of (bit refused k)
 
-      pub compared : run l (effected e p) ≡ doneFor which ins x (run l p)
+      pub compared : effected l ins e c g ≡ doneFor which ins x (run l c g)
       unfolding doneFor
       compared =
-          ap₂ (λ (v t : ℕ). run l (progress (withVcr (withVmr (p .control) v) (e .vcr)) (joined (p .gathered) (noted t)))) same-mask same-types
-          ∙ ap (λ (v : ℕ). run l (progress (withVcr (withVmr (p .control) (after 64 .vmr)) v) (joined (p .gathered) (noted (after 64 .types))))) is-vcr
+          as-effect e (after 64) same-mask is-vcr same-types is-none
           ∙ all
-          ∙ sym (pick-false (inOneStep ins) (iotaStep ins x (run l p)) _ (no-iota (rowAt (ins .work) .writes) compare))
+          ∙ sym (pick-false (inOneStep ins) (iotaStep ins x (run l c g)) _ (no-iota (rowAt (ins .work) .writes) compare))

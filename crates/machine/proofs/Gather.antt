@@ -1,54 +1,62 @@
 -- What a run gathers, by or: it is bound to no order, and nothing adds nothing. And the types that elements recorded, before or after the register's bit joins
 -- them. Assumes nothing.
-use mathlib.Core.Path.{_≡_, refl, sym, ap, ap₂, _∙_}
-use mathlib.Core.Bool.{Bool, true, false, not, _||_, _&&_}
+use mathlib.Core.Path.{_≡_, refl, sym, ap, _∙_}
+use mathlib.Core.Bool.{Bool, true, false, not, _||_, _&&_, or-false}
+use mathlib.Core.List.{List}
 use Prim.Native.Nat.{ℕ}
 use lib.Bits.{bitOr, or-zero-l, or-zero-r, or-self, or-comm}
 use lib.Dec.{eqb}
 use borrow.Author.Tests.{eqb-true}
 use Rattle.numbers.specs.Choice.{pick}
 use Rattle.numbers.proofs.BitLaws.{or-assoc, or-none}
-use Rattle.machine.specs.declared.Gathered.{Gathered}
-use Rattle.machine.specs.Run.{nothing, noted, joined}
+use Rattle.state.proofs.Marking.{marks-none, marks-twice, marks-swap}
+use Rattle.machine.specs.Run.{Gathered, Added, added, joined}
 use Rattle.machine.specs.Step.{notes}
 
-abbrev gathered : ℕ → Bool → Gathered
-gathered v r = record { vaer = v; recorded = r }
+abbrev gathered : ℕ → Bool → List ℕ → Gathered
+gathered v r m = record { vaer = v; recorded = r; marks = m }
+
+each : {v v′ : ℕ} {r r′ : Bool} {m m′ : List ℕ} → v ≡ v′ → r ≡ r′ → m ≡ m′ → gathered v r m ≡ gathered v′ r′ m′
+each e f g = cc
 
 either-assoc : (a b c : Bool) → ((a || b) || c) ≡ (a || (b || c))
 either-assoc true b c = refl
 either-assoc false b c = refl
 
-either-comm : (a b : Bool) → (a || b) ≡ (b || a)
-either-comm true true = refl
-either-comm true false = refl
-either-comm false true = refl
-either-comm false false = refl
+either-swap : (a b c : Bool) → ((a || b) || c) ≡ ((a || c) || b)
+either-swap true b c = refl
+either-swap false true true = refl
+either-swap false true false = refl
+either-swap false false true = refl
+either-swap false false false = refl
 
--- ---- the law of what is gathered
-pub joined-assoc : (a b c : Gathered) → joined (joined a b) c ≡ joined a (joined b c)
+-- ---- THE LAW OF WHAT IS GATHERED: two steps may add theirs in either order
+pub joined-swap : (g : Gathered) (a b : Added) → joined (joined g a) b ≡ joined (joined g b) a
 unfolding joined
-joined-assoc a b c = ap₂ gathered (or-assoc (a .vaer) (b .vaer) (c .vaer)) (either-assoc (a .recorded) (b .recorded) (c .recorded))
+joined-swap g a b =
+    each
+    (or-assoc (g .vaer) (a .notes) (b .notes) ∙ ap (bitOr (g .vaer)) (or-comm (a .notes) (b .notes)) ∙ sym (or-assoc (g .vaer) (b .notes) (a .notes)))
+    (either-swap (g .recorded) (not (eqb (a .notes) 0)) (not (eqb (b .notes) 0)))
+    (marks-swap (g .marks) (a .register) (a .wrote) (b .register) (b .wrote))
 
-pub joined-comm : (a b : Gathered) → joined a b ≡ joined b a
+-- nothing adds nothing
+pub joined-nothing : (g : Gathered) (register : ℕ) → joined g (added 0 register 0) ≡ g
 unfolding joined
-joined-comm a b = ap₂ gathered (or-comm (a .vaer) (b .vaer)) (either-comm (a .recorded) (b .recorded))
+joined-nothing g register = each (or-zero-r (g .vaer)) (or-false (g .recorded)) (marks-none (g .marks) register)
 
-pub joined-nothing : (a : Gathered) → joined a nothing ≡ a
+-- two steps of one register add together what both add
+pub joined-twice : (g : Gathered) (x y register s t : ℕ)
+    → joined (joined g (added x register s)) (added y register t) ≡ joined g (added (bitOr x y) register (bitOr s t))
 unfolding joined
-joined-nothing a = ap₂ gathered (or-zero-r (a .vaer)) (either-comm (a .recorded) false)
-
--- ---- what two elements add together
-pub noted-both : (x y : ℕ) → joined (noted x) (noted y) ≡ noted (bitOr x y)
-unfolding joined
-noted-both x y = ap (gathered (bitOr x y)) (at (eqb x 0) (eqb y 0) ∙ ap not (sym (or-none x y)))
+joined-twice g x y register s t =
+    each
+    (or-assoc (g .vaer) x y)
+    (either-assoc (g .recorded) (not (eqb x 0)) (not (eqb y 0)) ∙ ap (λ (b : Bool). g .recorded || b) (at (eqb x 0) (eqb y 0) ∙ ap not (sym (or-none x y))))
+    (marks-twice (g .marks) register s t)
   where
-    at : (s t : Bool) → (not s || not t) ≡ not (s && t)
-    at true t = refl
-    at false t = refl
-
-pub noted-twice : (g : Gathered) (x y : ℕ) → joined (joined g (noted x)) (noted y) ≡ joined g (noted (bitOr x y))
-noted-twice g x y = joined-assoc g (noted x) (noted y) ∙ ap (joined g) (noted-both x y)
+    at : (a b : Bool) → (not a || not b) ≡ not (a && b)
+    at true b = refl
+    at false b = refl
 
 -- types gather before or after the register's bit joins them
 pub notes-or : (register t u : ℕ) → bitOr (notes register t) (notes register u) ≡ notes register (bitOr t u)

@@ -18,17 +18,17 @@ use Rattle.numbers.proofs.BitLaws.{digit, digit-complement, bit-counts, bit-bel
 use Rattle.numbers.proofs.Rising.{settles}
 use Rattle.numbers.proofs.SetBits.{Walk, starts-walk, ends-walk, index-below, less-left, turns-walk, rises}
 use Rattle.numbers.proofs.Tests.{pick-true, pick-false}
+use Rattle.numbers.proofs.Unions.{first-ones}
 use Rattle.opcodes.specs.declared.Instruction.{Instruction}
 use Rattle.machine.specs.declared.Effect.{Effect}
-use Rattle.machine.specs.declared.Gathered.{Gathered}
-use Rattle.machine.specs.declared.Progress.{Progress}
 use Rattle.opcodes.specs.Opcodes.{inOneStep}
-use Rattle.machine.specs.Run.{run, progress, nothing, noted, joined}
+use Rattle.machine.specs.Run.{Gathered, run, added, joined}
+use Rattle.state.specs.declared.Control.{Control}
+use Rattle.state.specs.Marks.{firstElements}
 use Rattle.state.specs.State.{withVmr, withVcr}
 use Rattle.state.specs.Elements.{matches}
-use Rattle.machine.specs.Iota.{matching, put, turned, walked, iotaStep}
+use Rattle.machine.specs.Iota.{matching, put, turned, walked, countOf, iotaStep}
 use Rattle.machine.specs.Working.{matched, Counted, counted, iotaTurn, effected, doneFor}
-use Rattle.machine.proofs.Gather.{joined-nothing}
 use Rattle.machine.proofs.Values.{is-matched}
 
 -- ---- the count of ones
@@ -141,25 +141,30 @@ module _ (vmr : ℕ) (mtf : Bool) (stride vc : ℕ) (l : List ℕ) (word : vmr <
 -- ---- the step
 
 -- l′ is what the walk leaves, and the count that of the ones
-pub stepped : (ins : Instruction) (stride low-stride which bits next : ℕ) (p : Progress) (l l′ : List ℕ) (e : Effect)
-    → inOneStep ins ≡ true → p .control .vmr < 2 ^ 64 → p .control .vlr ≤ 64
-    → bits ≡ lowBits (matched (p .control .vmr) (ins .mtf)) (p .control .vlr)
+pub stepped : (ins : Instruction) (stride low-stride which bits next : ℕ) (c : Control) (g : Gathered) (l l′ : List ℕ) (e : Effect)
+    → inOneStep ins ≡ true → c .vmr < 2 ^ 64 → c .vlr ≤ 64
+    → bits ≡ lowBits (matched (c .vmr) (ins .mtf)) (c .vlr)
     → low-stride ≡ low stride
     → counted l′ next ≡ rising (ofOnes (iotaTurn low-stride (ins .vc .0)) bits) 64 (counted l 0)
-    → e .vmr ≡ p .control .vmr → e .vcr ≡ ones bits → e .notes ≡ 0
-    → run l′ (effected e p) ≡ doneFor which ins stride (run l p)
+    → e .vmr ≡ c .vmr → e .vcr ≡ ones bits → e .notes ≡ 0 → e .wrote ≡ lowBits (2 ^ 64 - 1) (e .vcr)
+    → effected l′ ins e c g ≡ doneFor which ins stride (run l c g)
 unfolding doneFor iotaStep
-stepped ins stride low-stride which bits next p l l′ e iota word short is s walk v c n =
-    ap (λ (k : ℕ). run l′ (progress (withVcr (withVmr (p .control) (e .vmr)) (e .vcr)) (joined (p .gathered) (noted k)))) n
-    ∙ ap₂ (λ (a b : ℕ). run l′ (progress (withVcr (withVmr (p .control) a) b) (joined (p .gathered) nothing))) v (c ∙ count)
-    ∙ ap₂ (λ (y : List ℕ) (g : Gathered). run y (progress (withVcr (p .control) (matching (p .control .vmr) (ins .mtf) (p .control .vlr))) g))
-    left (joined-nothing (p .gathered))
+stepped ins stride low-stride which bits next c g l l′ e iota word short is s walk v k n wrote =
+    ap₂ (λ (a b : ℕ). run l′ (withVcr (withVmr c a) (e .vcr)) (joined g (added b (ins .vc .0) (e .wrote)))) v n
+    ∙ ap₂ (λ (a b : ℕ). run l′ (withVcr c a) (joined g (added 0 (ins .vc .0) b))) (k ∙ count) first
+    ∙ ap (λ (y : List ℕ). run y (withVcr c (countOf ins c)) (joined g (added 0 (ins .vc .0) (firstElements (countOf ins c))))) left
     ∙ sym (pick-true (inOneStep ins) _ _ iota)
   where
-    count : ones bits ≡ matching (p .control .vmr) (ins .mtf) (p .control .vlr)
-    count = counts (p .control .vmr) (ins .mtf) (p .control .vlr) (matched (p .control .vmr) (ins .mtf)) bits word short refl is
+    count : ones bits ≡ countOf ins c
+    count = counts (c .vmr) (ins .mtf) (c .vlr) (matched (c .vmr) (ins .mtf)) bits word short refl is
 
-    left : l′ ≡ walked (p .control .vmr) (ins .mtf) (low stride) (ins .vc .0) (p .control .vlr) l
+    first : e .wrote ≡ firstElements (countOf ins c)
+    first =
+        wrote
+        ∙ ap (lowBits (2 ^ 64 - 1)) (k ∙ count)
+        ∙ first-ones 64 (countOf ins c) (let m = matching-le (c .vmr) (ins .mtf) (c .vlr) in omega arith)
+
+    left : l′ ≡ walked (c .vmr) (ins .mtf) (low stride) (ins .vc .0) (c .vlr) l
     left =
-        whole-walk (p .control .vmr) (ins .mtf) low-stride (ins .vc .0) l word (p .control .vlr) bits short is l′ next walk
-        ∙ ap (λ (t : ℕ). walked (p .control .vmr) (ins .mtf) t (ins .vc .0) (p .control .vlr) l) s
+        whole-walk (c .vmr) (ins .mtf) low-stride (ins .vc .0) l word (c .vlr) bits short is l′ next walk
+        ∙ ap (λ (t : ℕ). walked (c .vmr) (ins .mtf) t (ins .vc .0) (c .vlr) l) s

@@ -22,8 +22,8 @@ use Rattle.machine.specs.Instruction.{stepOf, stepsBelow, stepCount, who
 use Rattle.machine.proofs.IotaLaws.{matching-le}
 
 pub record InRange (r : Run) : Type 0 where
-  pub control : Ranged (r .progress .control)
-  pub gathered : vaerInRange (r .progress .gathered .vaer) ≡ true
+  pub control : Ranged (r .control)
+  pub gathered : vaerInRange (r .gathered .vaer) ≡ true
 
 either : (t : Bool) (a b : Run) → InRange a → InRange b → InRange (pick t a b)
 either true a b x y = x
@@ -60,22 +60,25 @@ module _ (ins : Instruction) (scalar : ℕ) (vc : ins .vc .0 < 16) where
       let n = notes (registerBit (writesMask ins) (ins .vc .0)) (o .types) in
       record {
         control = w .control;
-        gathered = vaer-or (written ins i (o .value) r .progress .gathered .vaer) n (w .gathered) (notes-ranged (writesMask ins) (ins .vc .0) (o .types) vc t);
+        gathered = vaer-or (written ins i (o .value) r .gathered .vaer) n (w .gathered) (notes-ranged (writesMask ins) (ins .vc .0) (o .types) vc t);
       }
 
   iota-ranged : (r : Run) → InRange r → InRange (iotaStep ins scalar r)
-  unfolding iotaStep
+  unfolding iotaStep joined
   iota-ranged r g =
-      let m = matching-le (r .progress .control .vmr) (ins .mtf) (r .progress .control .vlr) in
+      let m = matching-le (r .control .vmr) (ins .mtf) (r .control .vlr) in
       let c = g .control in
       let v = c .vlr in
-      record { control = record { vlr = c .vlr; vcr = omega arith; vaer = c .vaer; vpsr = c .vpsr }; gathered = g .gathered }
+      record {
+        control = record { vlr = c .vlr; vcr = omega arith; vaer = c .vaer; vpsr = c .vpsr };
+        gathered = vaer-or (r .gathered .vaer) 0 (g .gathered) refl;
+      }
 
   pub step-ranged : (i : ℕ) (r : Run) → InRange r → InRange (stepOf ins scalar i r)
   unfolding stepOf elementStep
   step-ranged i r g =
       either (inOneStep ins) _ _ (iota-ranged r g)
-      (either (operated ins (r .progress .control) i) _ _ (worked-ranged i r g) g)
+      (either (operated ins (r .control) i) _ _ (worked-ranged i r g) g)
 
   below-ranged : (n : ℕ) (r : Run) → InRange r → InRange (stepsBelow n ins scalar r)
   unfolding stepsBelow
@@ -84,27 +87,27 @@ module _ (ins : Instruction) (scalar : ℕ) (vc : ins .vc .0 < 16) where
 
   pub whole-ranged : (r : Run) → InRange r → InRange (wholeOf ins scalar r)
   unfolding wholeOf
-  whole-ranged r g = below-ranged (stepCount ins (r .progress .control .vlr)) r g
+  whole-ranged r g = below-ranged (stepCount ins (r .control .vlr)) r g
 
 -- ---- the end of a run
 module _ (r : Run) (g : InRange r) where
   abbrev noted : Control
-  noted = withVaer (r .progress .control) (bitOr (r .progress .control .vaer) (r .progress .gathered .vaer))
+  noted = withVaer (r .control) (bitOr (r .control .vaer) (r .gathered .vaer))
 
   noted-ranged : Ranged noted
   noted-ranged =
       let c = g .control in
-      let v = vaer-or (r .progress .control .vaer) (r .progress .gathered .vaer) (c .vaer) (g .gathered) in
+      let v = vaer-or (r .control .vaer) (r .gathered .vaer) (c .vaer) (g .gathered) in
       record { vlr = c .vlr; vcr = c .vcr; vaer = v; vpsr = c .vpsr }
 
-  pub ended-ranged : Ranged (ended (r .progress))
+  pub ended-ranged : Ranged (ended (r .control) (r .gathered .vaer) (r .gathered .recorded))
   unfolding ended
-  ended-ranged = at (r .progress .gathered .recorded) noted-ranged
+  ended-ranged = at (r .gathered .recorded) noted-ranged
     where
       at : (t : Bool) → Ranged noted → Ranged (stopped t noted)
       at true n = record { vlr = n .vlr; vcr = n .vcr; vaer = n .vaer; vpsr = rw (stopped-status (noted .vpsr) (n .vpsr)) refl }
       at false n = n
 
-  pub ended-disabled : r .progress .gathered .recorded ≡ true → enabled (ended (r .progress)) ≡ false
+  pub ended-disabled : r .gathered .recorded ≡ true → enabled (ended (r .control) (r .gathered .vaer) (r .gathered .recorded)) ≡ false
   unfolding ended
   ended-disabled e = ap (λ (t : Bool). enabled (stopped t noted)) e ∙ ap (λ (v : ℕ). eqb (v % 2) 1) (stopped-status (noted .vpsr) (noted-ranged .vpsr))

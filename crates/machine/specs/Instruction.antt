@@ -1,7 +1,7 @@
 -- A whole register instruction: its steps in rising order. IOTA is one step, also at VLR 0.
 use Prim.Native.Nat.{ℕ, zero, suc}
 use Rattle.numbers.specs.Choice.{pick}
-use Rattle.state.specs.State.{State}
+use Rattle.state.specs.Marks.{Marked}
 use Rattle.opcodes.specs.declared.Instruction.{Instruction}
 use Rattle.opcodes.specs.Opcodes.{inOneStep}
 use Rattle.machine.specs.Run.{Run, begun, finished}
@@ -22,8 +22,8 @@ abbrev pub stepCount : Instruction → ℕ → ℕ
 stepCount ins vlr = pick (inOneStep ins) 1 vlr
 
 unfoldable pub wholeOf : Instruction → ℕ → Run → Run
-wholeOf ins scalar r = stepsBelow (stepCount ins (r .progress .control .vlr)) ins scalar r
+wholeOf ins scalar r = stepsBelow (stepCount ins (r .control .vlr)) ins scalar r
 
 -- a register instruction by itself
-unfoldable pub instructionDone : Instruction → ℕ → State → State
-instructionDone ins scalar s = finished (wholeOf ins scalar (begun s))
+unfoldable pub instructionDone : Instruction → ℕ → Marked → Marked
+instructionDone ins scalar b = finished (wholeOf ins scalar (begun b))

@@ -5,10 +5,12 @@ use Prim.Native.Nat.{ℕ, zero, suc, _+_, _*_, _%_, _^_}
 use lib.ListN.{set}
 use Rattle.numbers.specs.Choice.{pick}
 use Rattle.numbers.specs.Halves.{low, withLow}
+use Rattle.state.specs.declared.Control.{Control}
 use Rattle.state.specs.State.{placeOf, withVcr}
 use Rattle.opcodes.specs.declared.Instruction.{Instruction}
-use Rattle.machine.specs.Run.{Run, run, progress}
+use Rattle.machine.specs.Run.{Run, run, added, joined}
 use Rattle.state.specs.Elements.{at, matches}
+use Rattle.state.specs.Marks.{firstElements}
 
 -- the number of matching mask bits below n
 unfoldable pub matching : ℕ → Bool → ℕ → ℕ
@@ -28,8 +30,13 @@ unfoldable pub walked : ℕ → Bool → ℕ → ℕ → ℕ → List ℕ → Li
 walked vmr mtf stride vc zero l = l
 walked vmr mtf stride vc (suc n) l = turned vmr mtf stride vc n (matching vmr mtf n) (walked vmr mtf stride vc n l)
 
--- VCR is the number of matching mask bits below VLR; elements from VCR on keep
+-- the new VCR
+abbrev pub countOf : Instruction → Control → ℕ
+countOf ins c = matching (c .vmr) (ins .mtf) (c .vlr)
+
+-- VCR is the number of matching mask bits below VLR; elements from VCR on keep, and the first VCR are marked
 unfoldable pub iotaStep : Instruction → ℕ → Run → Run
 iotaStep ins stride r =
-    run (walked (r .progress .control .vmr) (ins .mtf) (low stride) (ins .vc .0) (r .progress .control .vlr) (r .elements))
-    (progress (withVcr (r .progress .control) (matching (r .progress .control .vmr) (ins .mtf) (r .progress .control .vlr))) (r .progress .gathered))
+    run (walked (r .control .vmr) (ins .mtf) (low stride) (ins .vc .0) (r .control .vlr) (r .elements))
+    (withVcr (r .control) (countOf ins (r .control)))
+    (joined (r .gathered) (added 0 (ins .vc .0) (firstElements (countOf ins (r .control)))))

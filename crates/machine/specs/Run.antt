@@ -1,4 +1,5 @@
 -- A run of instructions under way. Document 01, "Queues and orders": one bit beside the state keeps whether anything was recorded in this run.
+-- Document 02, "Which elements were written" (Q-3): a call keeps the marks that it is handed, and its steps add theirs.
 use mathlib.Core.Bool.{Bool, false, not, _||_}
 use mathlib.Core.List.{List}
 use Prim.Native.Nat.{ℕ}
@@ -7,44 +8,53 @@ use lib.Bits.{bitOr}
 use Rattle.numbers.specs.Choice.{pick}
 use Rattle.numbers.specs.Bits.{withBit}
 use Rattle.state.specs.declared.Control.{Control}
-use Rattle.state.specs.State.{State, state, withVaer, withVpsr}
-use Rattle.machine.specs.declared.Gathered.{Gathered}
-use Rattle.machine.specs.declared.Progress.{Progress}
+use Rattle.state.specs.Marks.{Marked, marked, withMarks}
+use Rattle.state.specs.State.{state, withVaer, withVpsr}
 
--- ---- what a run gathers, by or: the bits that VAER gets, and that one bit
-abbrev pub nothing : Gathered
-nothing = record { vaer = 0; recorded = false }
+-- ---- what a run gathers, by or: the bits that VAER gets, that one bit, and the marks
+pub record Gathered : Type 0 where
+  pub vaer : ℕ
+  pub recorded : Bool
+  pub marks : List ℕ
 
--- what one element adds, where VAER gets these bits
-abbrev pub noted : ℕ → Gathered
-noted notes = record { vaer = notes; recorded = not (eqb notes 0) }
+-- what a step adds to it: bits for VAER, and the elements of a register that it wrote, as a set
+pub record Added : Type 0 where
+  pub notes : ℕ
+  pub register : ℕ
+  pub wrote : ℕ
 
-unfoldable pub joined : Gathered → Gathered → Gathered
-joined a b = record { vaer = bitOr (a .vaer) (b .vaer); recorded = a .recorded || b .recorded }
+abbrev pub added : ℕ → ℕ → ℕ → Added
+added notes register wrote = record { notes = notes; register = register; wrote = wrote }
+
+unfoldable pub joined : Gathered → Added → Gathered
+joined g a =
+    record {
+      vaer = bitOr (g .vaer) (a .notes);
+      recorded = g .recorded || not (eqb (a .notes) 0);
+      marks = withMarks (g .marks) (a .register) (a .wrote);
+    }
 
 -- ---- the elements, the control record, and what was gathered so far
 pub record Run : Type 0 where
   pub elements : List ℕ
-  pub progress : Progress
+  pub control : Control
+  pub gathered : Gathered
 
-abbrev pub run : List ℕ → Progress → Run
-run l p = record { elements = l; progress = p }
+abbrev pub run : List ℕ → Control → Gathered → Run
+run l c g = record { elements = l; control = c; gathered = g }
 
-abbrev pub progress : Control → Gathered → Progress
-progress c g = record { control = c; gathered = g }
-
--- nothing at the start
-abbrev pub begun : State → Run
-begun s = run (s .elements) (progress (s .control) nothing)
+-- nothing recorded at the start, and the marks as they were handed over
+abbrev pub begun : Marked → Run
+begun b = run (b .state .elements) (b .state .control) (record { vaer = 0; recorded = false; marks = b .marks })
 
 -- Only now, if anything was recorded, VEN is cleared and AEX set. VAER gets its bits along the way: nothing within a run reads it and or is bound to no
 -- order, so what was gathered joins it here, once.
 abbrev pub stopped : Bool → Control → Control
 stopped recorded c = pick recorded (withVpsr c (withBit (withBit (c .vpsr) 0 0) 7 1)) c
 
-unfoldable pub ended : Progress → Control
-ended p = stopped (p .gathered .recorded) (withVaer (p .control) (bitOr (p .control .vaer) (p .gathered .vaer)))
+unfoldable pub ended : Control → ℕ → Bool → Control
+ended c vaer recorded = stopped recorded (withVaer c (bitOr (c .vaer) vaer))
 
--- the state at the end of a run
-abbrev pub finished : Run → State
-finished r = state (r .elements) (ended (r .progress))
+-- the state at the end of a run, and the marks
+abbrev pub finished : Run → Marked
+finished r = marked (state (r .elements) (ended (r .control) (r .gathered .vaer) (r .gathered .recorded))) (r .gathered .marks)

@@ -8,6 +8,7 @@ use lib.ListN.{set}
 use Rattle.numbers.specs.Choice.{pick}
 use Rattle.numbers.specs.Bits.{withBit}
 use Rattle.state.specs.Elements.{at, matches}
+use Rattle.state.specs.Marks.{oneElement}
 use Rattle.state.specs.State.{placeOf, withVmr}
 use Rattle.opcodes.specs.declared.Instruction.{Instruction}
 use Rattle.opcodes.specs.Opcodes.{workAt, writesMask, ignoresMoe, readsVa, readsVb}
@@ -15,7 +16,7 @@ use Rattle.opcodes.specs.Masking.{operated}
 use Rattle.opcodes.specs.ControlWord.{fieldOf}
 use Rattle.element.specs.declared.Out.{Out}
 use Rattle.element.specs.Receives.{resultOf}
-use Rattle.machine.specs.Run.{Run, run, progress, noted, joined}
+use Rattle.machine.specs.Run.{Run, run, Added, added, joined}
 
 -- ---- what a work is handed; 0 stands for what it does not read
 -- Va's element, or the scalar in its place
@@ -37,7 +38,7 @@ chooses ins vmr i = pick (ignoresMoe ins) (matches vmr (ins .mtf) i) false
 -- what element i receives
 unfoldable pub received : Instruction → ℕ → ℕ → Run → Out
 received ins scalar i r =
-    resultOf (workAt (ins .work)) (ins .exc) (fieldOf ins) (chooses ins (r .progress .control .vmr) i)
+    resultOf (workAt (ins .work)) (ins .exc) (fieldOf ins) (chooses ins (r .control .vmr) i)
     (first ins scalar (r .elements) i)
     (second ins (r .elements) i)
     (own ins (r .elements) i)
@@ -54,18 +55,22 @@ notes register types = pick (eqb types 0) 0 (bitOr types register)
 unfoldable pub written : Instruction → ℕ → ℕ → Run → Run
 written ins i value r =
     pick (writesMask ins)
-    (run (r .elements) (progress (withVmr (r .progress .control) (withBit (r .progress .control .vmr) i (value % 2))) (r .progress .gathered)))
-    (run (set (r .elements) (placeOf (ins .vc .0) i) value) (r .progress))
+    (run (r .elements) (withVmr (r .control) (withBit (r .control .vmr) i (value % 2))) (r .gathered))
+    (run (set (r .elements) (placeOf (ins .vc .0) i) value) (r .control) (r .gathered))
 
-abbrev pub recorded : ℕ → Run → Run
-recorded n r = run (r .elements) (progress (r .progress .control) (joined (r .progress .gathered) (noted n)))
+-- so it marks Vc's element i, and compare none
+abbrev pub marking : Instruction → ℕ → ℕ
+marking ins i = pick (writesMask ins) 0 (oneElement i)
+
+abbrev pub recorded : Added → Run → Run
+recorded a r = run (r .elements) (r .control) (joined (r .gathered) a)
 
 -- the work of element i, and nothing else
 unfoldable pub worked : Instruction → ℕ → ℕ → Run → Run
 worked ins scalar i r =
-    recorded (notes (registerBit (writesMask ins) (ins .vc .0)) (received ins scalar i r .types))
+    recorded (added (notes (registerBit (writesMask ins) (ins .vc .0)) (received ins scalar i r .types)) (ins .vc .0) (marking ins i))
     (written ins i (received ins scalar i r .value) r)
 
 -- all other destination elements and mask bits keep their contents
 unfoldable pub elementStep : Instruction → ℕ → ℕ → Run → Run
-elementStep ins scalar i r = pick (operated ins (r .progress .control) i) (worked ins scalar i r) r
+elementStep ins scalar i r = pick (operated ins (r .control) i) (worked ins scalar i r) r

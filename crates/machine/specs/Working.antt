@@ -3,25 +3,27 @@
 use mathlib.Core.Path.{_≡_}
 use mathlib.Core.Bool.{Bool, false}
 use mathlib.Core.List.{List}
-use Prim.Native.Nat.{ℕ, zero, suc, _+_, _-_, _*_, _%_, _^_, _<_}
+use Prim.Native.Nat.{ℕ, zero, suc, _+_, _*_, _%_, _^_, _<_}
 use lib.Dec.{eqb}
 use lib.Bits.{bitOr}
 use lib.ListN.{set}
 use Rattle.numbers.specs.Choice.{pick}
 use Rattle.numbers.specs.Bits.{bit}
-use Rattle.numbers.specs.Working.{lowBits, complement, ofOnes}
+use Rattle.numbers.specs.Working.{complement, ofOnes}
 use Rattle.numbers.specs.Rising.{rising}
+use Rattle.state.specs.declared.Control.{Control}
 use Rattle.state.specs.State.{placeOf, withVmr, withVcr}
 use Rattle.state.specs.Elements.{at}
 use Rattle.opcodes.specs.declared.Instruction.{Instruction}
 use Rattle.opcodes.specs.Works.{Work, Convert}
-use Rattle.opcodes.specs.Opcodes.{workAt, writesMask, inOneStep, ignoresMoe}
+use Rattle.opcodes.specs.Opcodes.{workAt, inOneStep, ignoresMoe}
 use Rattle.opcodes.specs.ControlWord.{fieldOf}
 use Rattle.element.specs.declared.Out.{Out}
 use Rattle.element.specs.Receives.{resultOf}
 use Rattle.machine.specs.declared.Effect.{Effect}
+use Rattle.machine.specs.declared.Noted.{Noted}
 use Rattle.machine.specs.declared.Progress.{Progress}
-use Rattle.machine.specs.Run.{Run, progress, noted, joined}
+use Rattle.machine.specs.Run.{Gathered, Run, run, added, joined}
 use Rattle.machine.specs.Step.{first, second, worked}
 use Rattle.machine.specs.Iota.{iotaStep, put}
 
@@ -97,14 +99,18 @@ unfoldable pub iotaTurn : ℕ → ℕ → ℕ → Counted → Counted
 iotaTurn stride vc i s = counted (put vc (s .next) (i * stride % 2 ^ 32) (s .elements)) (s .next + 1)
 
 -- ---- an instruction, or one step of it
--- the run under way after what was done
-abbrev pub effected : Effect → Progress → Progress
-effected e p = progress (withVcr (withVmr (p .control) (e .vmr)) (e .vcr)) (joined (p .gathered) (noted (e .notes)))
+-- what was gathered: what goes from step to step by value, and the lent marks
+abbrev pub gatheredIn : List ℕ → Noted → Gathered
+gatheredIn m n = record { vaer = n .vaer; recorded = n .recorded; marks = m }
+
+-- the run under way, over the lent elements and marks
+abbrev pub underWay : List ℕ → List ℕ → Progress → Run
+underWay l m p = run l (p .control) (gatheredIn m (p .noted))
+
+-- the run after what was done, which left the elements l
+abbrev pub effected : List ℕ → Instruction → Effect → Control → Gathered → Run
+effected l ins e c g = run l (withVcr (withVmr c (e .vmr)) (e .vcr)) (joined g (added (e .notes) (ins .vc .0) (e .wrote)))
 
 -- the work of the elements of a set; IOTA's one step
 unfoldable pub doneFor : ℕ → Instruction → ℕ → Run → Run
 doneFor which ins scalar r = pick (inOneStep ins) (iotaStep ins scalar r) (rising (ofOnes (worked ins scalar) which) 64 r)
-
--- the elements of Vc that are written: those of the set; none where mask bits are; IOTA's first VCR
-abbrev pub wroteOf : Instruction → ℕ → ℕ → ℕ
-wroteOf ins which vcr = pick (writesMask ins) 0 (pick (inOneStep ins) (lowBits (2 ^ 64 - 1) vcr) which)

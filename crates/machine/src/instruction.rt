@@ -11,16 +11,19 @@ use opcodes::masking::operated;
 use opcodes::works;
 use state::Element;
 use state::Register;
+use state::marks;
 ghost use mathlib.Core.Path.{_≡_};
+ghost use mathlib.Core.List.{List};
 ghost use mathlib.Core.Bool.{true, false};
 ghost use Prim.Native.Nat.{ℕ, _<_, _≤_};
-ghost use Rattle.numbers.specs.Bits.{bit, withBit};
+ghost use Rattle.numbers.specs.Bits.{bit};
+ghost use Rattle.state.specs.declared.Control.{Control};
 ghost use Rattle.opcodes.specs.Opcodes.{inOneStep};
-ghost use Rattle.machine.specs.Run.{run as runOf};
+ghost use Rattle.machine.specs.Run.{Gathered, run as runOf};
 ghost use Rattle.machine.specs.Step.{registerBit, notes, worked};
 ghost use Rattle.machine.specs.Instruction.{stepOf, wholeOf};
 ghost use Rattle.opcodes.specs.Working.{Below, isRegisterWork};
-ghost use Rattle.machine.specs.Working.{matched as matchedOf, effected as effectedOf, doneFor, wroteOf};
+ghost use Rattle.machine.specs.Working.{matched as matchedOf, gatheredIn, underWay, effected as effectedOf, doneFor};
 
 // The bit of a register in VAER.
 fn register_bit(register: Register) -> u64
@@ -63,8 +66,7 @@ fn effect(
 ) -> Effect
     requires { ⌜ Below instruction × (isRegisterWork (instruction .work) ≡ true) × (vlr ≤ 64) ⌝ }
     requires { ⌜ ((i : ℕ) → bit which i ≡ true → i < vlr) ⌝ }
-    ensures left { λ r. ⌜ ((p : Progress) → p .control .vlr ≡ vlr → p .control .vmr ≡ vmr → p .control .vcr ≡ vcr → runOf (now (elements .exit)) (effectedOf r p) ≡ doneFor which instruction scalar (runOf (now (elements .entry)) p)) ⌝ }
-    ensures wrote { λ r. ⌜ r .wrote ≡ wroteOf instruction which (r .vcr) ⌝ }
+    ensures { λ r. ⌜ ((c : Control) (g : Gathered) → c .vlr ≡ vlr → c .vmr ≡ vmr → c .vcr ≡ vcr → effectedOf (now (elements .exit)) instruction r c g ≡ doneFor which instruction scalar (runOf (now (elements .entry)) c g)) ⌝ }
 {
     if works::writes_mask(instruction.work) {
         return mask::over(
@@ -95,8 +97,7 @@ fn one(
     vcr: u64,
 ) -> Effect
     requires { ⌜ Below instruction × (isRegisterWork (instruction .work) ≡ true) × (i .0 < 64) × (inOneStep instruction ≡ false) ⌝ }
-    ensures left { λ r. ⌜ ((p : Progress) → p .control .vmr ≡ vmr → p .control .vcr ≡ vcr → runOf (now (elements .exit)) (effectedOf r p) ≡ worked instruction scalar (i .0) (runOf (now (elements .entry)) p)) ⌝ }
-    ensures wrote { λ r. ⌜ r .wrote ≡ wroteOf instruction (withBit 0 (i .0) 1) (r .vcr) ⌝ }
+    ensures { λ r. ⌜ ((c : Control) (g : Gathered) → c .vmr ≡ vmr → c .vcr ≡ vcr → effectedOf (now (elements .exit)) instruction r c g ≡ worked instruction scalar (i .0) (runOf (now (elements .entry)) c g)) ⌝ }
 {
     if works::writes_mask(instruction.work) {
         return mask::at(&*elements, instruction, scalar, i, vmr, vcr);
@@ -112,57 +113,66 @@ fn one(
     noted(instruction, vmr, vcr, types, which)
 }
 
-// The run under way after what was done.
-fn effected(progress: Progress, effect: Effect) -> Progress
-    ensures { λ r. ⌜ r ≡ effectedOf effect progress ⌝ }
+// The run under way after what was done: what VAER gets is noted, and the elements that were written are marked, all of them at once.
+fn effected(
+    marks: &mut [u64; 16],
+    progress: Progress,
+    instruction: Instruction,
+    effect: Effect,
+) -> Progress
+    requires { ⌜ instruction .vc .0 < 16 ⌝ }
+    ensures { λ r. ⌜ ((l : List ℕ) → underWay l (now (marks .exit)) r ≡ effectedOf l instruction effect (progress .control) (gatheredIn (now (marks .entry)) (progress .noted))) ⌝ }
 {
     let mut control = progress.control;
     control.vmr = effect.vmr;
     control.vcr = effect.vcr;
-    let before = progress.gathered;
-    let gathered = run::gather(before, effect.notes);
-    Progress { control, gathered }
+    let before = progress.noted;
+    let noted = run::gather(before, effect.notes);
+    marks::add(marks, Register(instruction.vc.0 as usize), effect.wrote);
+    Progress { control, noted }
 }
 
 // A register instruction, whole.
 pub fn whole(
     elements: &mut [u64; 1024],
+    marks: &mut [u64; 16],
     progress: Progress,
     instruction: Instruction,
     scalar: u64,
 ) -> Progress
     requires { ⌜ Below instruction × (isRegisterWork (instruction .work) ≡ true) × (progress .control .vlr ≤ 64) ⌝ }
-    ensures { λ r. ⌜ runOf (now (elements .exit)) r ≡ wholeOf instruction scalar (runOf (now (elements .entry)) progress) ⌝ }
+    ensures { λ r. ⌜ underWay (now (elements .exit)) (now (marks .exit)) r ≡ wholeOf instruction scalar (underWay (now (elements .entry)) (now (marks .entry)) progress) ⌝ }
 {
     let vlr = progress.control.vlr;
     let vmr = progress.control.vmr;
     let vcr = progress.control.vcr;
     let which = operated(instruction, vlr, vmr);
     let done = effect(elements, instruction, scalar, which, vlr, vmr, vcr);
-    effected(progress, done)
+    effected(marks, progress, instruction, done)
 }
 
 // One step: the work of its element alone, or IOTA's whole.
 pub fn step(
     elements: &mut [u64; 1024],
+    marks: &mut [u64; 16],
     progress: Progress,
     instruction: Instruction,
     scalar: u64,
     element: Element,
 ) -> Progress
     requires { ⌜ Below instruction × (isRegisterWork (instruction .work) ≡ true) × (progress .control .vlr ≤ 64) × (element .0 < 64) ⌝ }
-    ensures { λ r. ⌜ runOf (now (elements .exit)) r ≡ stepOf instruction scalar (element .0) (runOf (now (elements .entry)) progress) ⌝ }
+    ensures { λ r. ⌜ underWay (now (elements .exit)) (now (marks .exit)) r ≡ stepOf instruction scalar (element .0) (underWay (now (elements .entry)) (now (marks .entry)) progress) ⌝ }
 {
     let vlr = progress.control.vlr;
     let vmr = progress.control.vmr;
     let vcr = progress.control.vcr;
     if works::in_one_step(instruction.work) {
         let done = effect(elements, instruction, scalar, 0, vlr, vmr, vcr);
-        return effected(progress, done);
+        return effected(marks, progress, instruction, done);
     }
     if !bits::bit(operated(instruction, vlr, vmr), element.0) {
         return progress;
     }
     let done = one(elements, instruction, scalar, element, vmr, vcr);
-    effected(progress, done)
+    effected(marks, progress, instruction, done)
 }

@@ -6,13 +6,13 @@ use state::Element;
 use state::Register;
 ghost use mathlib.Core.Path.{_≡_};
 ghost use mathlib.Core.Bool.{true};
-ghost use Prim.Native.Nat.{ℕ, _*_, _-_, _%_, _^_, _<_, _≤_};
+ghost use Prim.Native.Nat.{ℕ, _*_, _%_, _^_, _<_, _≤_};
 ghost use lib.Count.{ones};
-ghost use Rattle.numbers.specs.Working.{lowBits, ofOnes};
+ghost use Rattle.numbers.specs.Working.{ofOnes};
 ghost use Rattle.numbers.specs.Rising.{rising};
-ghost use Rattle.machine.specs.declared.Progress.{Progress};
+ghost use Rattle.state.specs.declared.Control.{Control};
 ghost use Rattle.opcodes.specs.Opcodes.{inOneStep};
-ghost use Rattle.machine.specs.Run.{run as runOf};
+ghost use Rattle.machine.specs.Run.{Gathered, run as runOf};
 ghost use Rattle.machine.specs.Iota.{put};
 ghost use Rattle.machine.specs.Working.{matched, counted, iotaTurn, effected, doneFor};
 
@@ -63,8 +63,7 @@ pub fn iota(
     vmr: u64,
 ) -> Effect
     requires { ⌜ (instruction .vc .0 < 16) × (vlr ≤ 64) × (inOneStep instruction ≡ true) × (mask ≡ matched vmr (instruction .mtf)) ⌝ }
-    ensures left { λ r. ⌜ ((which : ℕ) (p : Progress) → p .control .vlr ≡ vlr → p .control .vmr ≡ vmr → runOf (now (elements .exit)) (effected r p) ≡ doneFor which instruction stride (runOf (now (elements .entry)) p)) ⌝ }
-    ensures wrote { λ r. ⌜ r .wrote ≡ lowBits (2 ^ 64 - 1) (r .vcr) ⌝ }
+    ensures { λ r. ⌜ ((which : ℕ) (c : Control) (g : Gathered) → c .vlr ≡ vlr → c .vmr ≡ vmr → effected (now (elements .exit)) instruction r c g ≡ doneFor which instruction stride (runOf (now (elements .entry)) c g)) ⌝ }
 {
     let which = bits::low_bits(mask, vlr);
     let low = (stride % 4294967296) as u32;

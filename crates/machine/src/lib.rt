@@ -8,16 +8,17 @@ mod mask;
 mod operand;
 pub mod run;
 
-// What a run gathers by or, in whatever order its steps come: the bits that VAER gets, and whether anything was recorded.
-pub struct Gathered {
+// Of what a run gathers by or, in whatever order its steps come, all but the marks, which are lent: the bits that VAER gets, and whether
+// anything was recorded.
+pub struct Noted {
     pub vaer: u64,
     pub recorded: bool,
 }
 
-// A run under way: the control record, and what was gathered so far.
+// A run under way: the control record, and what was noted so far.
 pub struct Progress {
     pub control: Control,
-    pub gathered: Gathered,
+    pub noted: Noted,
 }
 
 // Which elements below a length a compare finds in its relation, and which it refuses: element i is bit i.

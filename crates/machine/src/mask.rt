@@ -17,8 +17,8 @@ ghost use Rattle.numbers.specs.Choice.{pick};
 ghost use Rattle.numbers.specs.Bits.{bit};
 ghost use Rattle.opcodes.specs.Opcodes.{writesMask};
 ghost use Rattle.element.specs.Working.{isCompare};
-ghost use Rattle.machine.specs.declared.Progress.{Progress};
-ghost use Rattle.machine.specs.Run.{run as runOf};
+ghost use Rattle.state.specs.declared.Control.{Control};
+ghost use Rattle.machine.specs.Run.{Gathered, run as runOf};
 ghost use Rattle.machine.specs.Step.{worked};
 ghost use Rattle.opcodes.specs.Working.{Below};
 ghost use Rattle.machine.specs.Working.{comparedAt, oddFrom, OddBelow, effected, doneFor};
@@ -228,8 +228,7 @@ pub fn over(
 ) -> Effect
     requires { ⌜ Below instruction × (n ≤ 64) × (writesMask instruction ≡ true) ⌝ }
     requires { ⌜ ((i : ℕ) → bit which i ≡ true → i < n) ⌝ }
-    ensures left { λ r. ⌜ ((p : Progress) → p .control .vmr ≡ vmr → p .control .vcr ≡ vcr → runOf (now (elements .entry)) (effected r p) ≡ doneFor which instruction x (runOf (now (elements .entry)) p)) ⌝ }
-    ensures wrote { λ r. ⌜ r .wrote ≡ 0 ⌝ }
+    ensures { λ r. ⌜ ((c : Control) (g : Gathered) → c .vmr ≡ vmr → c .vcr ≡ vcr → effected (now (elements .entry)) instruction r c g ≡ doneFor which instruction x (runOf (now (elements .entry)) c g)) ⌝ }
 {
     let m = either(elements, instruction.vc.0 as u64 % 8, instruction, x, n);
     let refused = m.refused & which;
@@ -251,8 +250,7 @@ pub fn at(
     vcr: u64,
 ) -> Effect
     requires { ⌜ Below instruction × (i .0 < 64) × (writesMask instruction ≡ true) ⌝ }
-    ensures left { λ r. ⌜ ((p : Progress) → p .control .vmr ≡ vmr → p .control .vcr ≡ vcr → runOf (now (elements .entry)) (effected r p) ≡ worked instruction x (i .0) (runOf (now (elements .entry)) p)) ⌝ }
-    ensures wrote { λ r. ⌜ r .wrote ≡ 0 ⌝ }
+    ensures { λ r. ⌜ ((c : Control) (g : Gathered) → c .vmr ≡ vmr → c .vcr ≡ vcr → effected (now (elements .entry)) instruction r c g ≡ worked instruction x (i .0) (runOf (now (elements .entry)) c g)) ⌝ }
 {
     let o = one(
         elements,

@@ -1,19 +1,24 @@
-// A run under way: what it gathers, and its end.
-use crate::Gathered;
+// A run under way: what is noted in it, and its end.
+use crate::Noted;
 use crate::Progress;
 use numbers::bits;
 use state::Control;
 ghost use mathlib.Core.Path.{_≡_};
-ghost use Rattle.machine.specs.Run.{progress, nothing, noted, joined, ended};
+ghost use Prim.Native.Nat.{ℕ};
+ghost use mathlib.Core.List.{List};
+ghost use Rattle.state.specs.Marks.{marked, withMarks};
+ghost use Rattle.state.specs.State.{state};
+ghost use Rattle.machine.specs.Run.{added, joined, begun, ended};
 ghost use Rattle.machine.specs.Step.{notes as notesOf};
+ghost use Rattle.machine.specs.Working.{gatheredIn, underWay};
 
 // A run that begins.
 pub fn begin(control: Control) -> Progress
-    ensures { λ r. ⌜ r ≡ progress control nothing ⌝ }
+    ensures { λ r. ⌜ ((l m : List ℕ) → underWay l m r ≡ begun (marked (state l control) m)) ⌝ }
 {
     Progress {
         control,
-        gathered: Gathered {
+        noted: Noted {
             vaer: 0,
             recorded: false,
         },
@@ -27,24 +32,24 @@ pub fn note(register: u64, types: u64) -> u64
     if types == 0 { 0 } else { types | register }
 }
 
-// What was gathered, and what VAER gets beside it.
-pub fn gather(gathered: Gathered, notes: u64) -> Gathered
-    ensures { λ r. ⌜ r ≡ joined gathered (noted notes) ⌝ }
+// What was noted, and what VAER gets beside it.
+pub fn gather(noted: Noted, notes: u64) -> Noted
+    ensures { λ r. ⌜ ((m : List ℕ) (register wrote : ℕ) → gatheredIn (withMarks m register wrote) r ≡ joined (gatheredIn m noted) (added notes register wrote)) ⌝ }
 {
-    Gathered {
-        vaer: gathered.vaer | notes,
-        recorded: gathered.recorded | (notes != 0),
+    Noted {
+        vaer: noted.vaer | notes,
+        recorded: noted.recorded | (notes != 0),
     }
 }
 
 // The end of a run: VAER has what was gathered; VEN is cleared and AEX set if anything was recorded.
 pub fn end(run: Progress) -> Control
-    ensures { λ r. ⌜ r ≡ ended run ⌝ }
+    ensures { λ r. ⌜ r ≡ ended (run .control) (run .noted .vaer) (run .noted .recorded) ⌝ }
 {
     let mut control = run.control;
-    let gathered = run.gathered;
-    control.vaer = control.vaer | gathered.vaer;
-    if gathered.recorded {
+    let noted = run.noted;
+    control.vaer = control.vaer | noted.vaer;
+    if noted.recorded {
         control.vpsr = bits::with_bit(bits::with_bit(control.vpsr, 0, 0), 7, 1);
     }
     control

@@ -1,9 +1,8 @@
 -- `step` meets its contract: IOTA's one step, an element that is not operated on, and one that is. Assumes nothing.
-use mathlib.Core.Path.{refl, sym, ap, _∙_}
+use mathlib.Core.Path.{refl, sym, _∙_}
 use borrow.Author.Tests.{not-true, not-false}
 use Rattle.numbers.proofs.Sets.{bit-none}
 use Rattle.numbers.proofs.Tests.{true-not-false}
-use Rattle.machine.specs.Run.{run}
 use Rattle.machine.proofs.Chosen.{taken, kept, iota-done}
 use borrow.Author.Needs.{needs}
 use Rattle.machine.proofs.instruction.step.Statement.{statement}
@@ -18,7 +17,8 @@ returns : tie.Need-returns
 returns c =
     let t : tie.Then1 = search needs in
     let iota = sym (t .before .in-one-step .ensures) ∙ t .if1 .taken in
-    ap (run _) (c .effected .ensures) ∙ c .before .effect .ensures .0 _ refl refl refl ∙ iota-done _ _ _ _ _ iota
+    let f : tie.After-effect = search needs in
+    c .effected .ensures _ ∙ f .effect .ensures _ _ refl refl refl ∙ iota-done _ _ _ _ _ iota
 
 returns-2 : tie.Need-returns-2
 returns-2 c =
@@ -42,8 +42,9 @@ returns-3 c =
     let no-iota = sym (e .before .in-one-step .ensures) ∙ e .if1 .left in
     let o : tie.After-operated = search needs in
     let l : tie.Else2 = search needs in
-    ap (run _) (c .effected2 .ensures)
-    ∙ c .before .one .ensures .0 _ refl refl
+    let f : tie.After-one = search needs in
+    c .effected2 .ensures _
+    ∙ f .one .ensures _ _ refl refl
     ∙ taken _ _ _ _ (s .pre .2) (o .operated .ensures) _ no-iota (sym (l .before .bit .ensures) ∙ not-false _ (l .if2 .left))
 
 pub step-spec : {M : Type 1} → statement M

@@ -1,7 +1,6 @@
 -- `whole` meets its contract: the work of the set of all elements that are operated on is the instruction. Assumes nothing.
 use Rattle.machine.proofs.Chosen.{whole, below}
-use Rattle.machine.specs.Run.{run}
-use mathlib.Core.Path.{refl, ap, _∙_}
+use mathlib.Core.Path.{refl, _∙_}
 use borrow.Author.Needs.{needs}
 use Rattle.machine.proofs.instruction.whole.Statement.{statement}
 use Rattle.machine.proofs.instruction.whole.Tie as tie
@@ -15,7 +14,8 @@ returns : tie.Need-returns
 returns c =
     let s : tie.Start = search needs in
     let o : tie.After-operated = search needs in
-    ap (run _) (c .effected .ensures) ∙ c .before .effect .ensures .0 _ refl refl refl ∙ whole _ _ _ _ (s .pre .2) (o .operated .ensures)
+    let f : tie.After-effect = search needs in
+    c .effected .ensures _ ∙ f .effect .ensures _ _ refl refl refl ∙ whole _ _ _ _ (s .pre .2) (o .operated .ensures)
 
 pub whole-spec : {M : Type 1} → statement M
 whole-spec =

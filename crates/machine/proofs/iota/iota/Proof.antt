@@ -19,14 +19,12 @@ returns c =
     let s : tie.Start = search needs in
     let l : tie.After-low-bits = search needs in
     let w : tie.After-walk = search needs in
-    let a = s .args in (
-      λ which p e f.
-          stepped (a .instruction) (a .stride) _ which _ _ p _ _ (record { vmr = _; vcr = _; notes = 0; wrote = 0 }) (s .pre .2)
-          (rw f (search needs)) (rw e (search needs))
-          (rw (e, f) (l .low-bits .ensures ∙ ap (λ m. lowBits m (a .vlr)) (s .pre .3))) (search needs) (w .walk .ensures) (sym f)
-          (c .before .count .ensures) refl,
-      c .low-bits2 .ensures,
-    )
+    let a = s .args in
+    λ which d g e f.
+    stepped (a .instruction) (a .stride) _ which _ _ d g _ _ (record { vmr = _; vcr = _; notes = 0; wrote = _ }) (s .pre .2)
+    (rw f (search needs)) (rw e (search needs))
+    (rw (e, f) (l .low-bits .ensures ∙ ap (λ m. lowBits m (a .vlr)) (s .pre .3))) (search needs) (w .walk .ensures) (sym f)
+    (c .before .count .ensures) refl (c .low-bits2 .ensures)
 
 pub iota-spec : {M : Type 1} → statement M
 iota-spec =

@@ -18,14 +18,13 @@ returns c =
     let s : tie.Start = search needs in
     let o : tie.After-one = search needs in
     let a = s .args in
-    let is = o .one .ensures in (
-      λ p e f.
-          compared-one (a .instruction) (a .x) 0 _ p (search needs) (s .pre .2) (record { vmr = _; vcr = _; notes = _; wrote = 0 }) (a .i .0)
-          (rw e (c .with-bit .ensures ∙ ap (λ (r : Out). withBit (a .vmr) (a .i .0) (r .value % 2)) is))
-          (sym f)
-          (ap (λ (r : Out). r .types) is),
-      refl,
-    )
+    let is = o .one .ensures in
+    λ k g e f.
+    compared-one (a .instruction) (a .x) 0 _ k g (search needs) (s .pre .2) (record { vmr = _; vcr = _; notes = _; wrote = 0 }) (a .i .0)
+    (rw e (c .with-bit .ensures ∙ ap (λ (r : Out). withBit (a .vmr) (a .i .0) (r .value % 2)) is))
+    (sym f)
+    (ap (λ (r : Out). r .types) is)
+    refl
 
 pub at-spec : {M : Type 1} → statement M
 at-spec =

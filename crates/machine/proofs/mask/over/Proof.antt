@@ -16,26 +16,22 @@ returns c =
     let s : tie.Start = search needs in
     let small : s .args .instruction .work < 256 = search needs in
     let m : tie.After-either = search needs in
-    let a = s .args in (
-      λ p e f.
-          compared (a .instruction) (a .x) (a .which) _ p small (s .pre .0 .2) (a .n) (m .either .result .found) (m .either .result .refused)
-          (record { vmr = _; vcr = _; notes = _; wrote = 0 }) (s .pre .0 .1) (s .pre .1) (m .either .ensures .0) (m .either .ensures .1)
-          (λ k. rw e (c .before .replaced .ensures k)) (sym f) (rw (eq-eqb _ _ (c .if1 .taken))),
-      refl,
-    )
+    let a = s .args in
+    λ d g e f.
+    compared (a .instruction) (a .x) (a .which) _ d g small (s .pre .0 .2) (a .n) (m .either .result .found) (m .either .result .refused)
+    (record { vmr = _; vcr = _; notes = _; wrote = 0 }) (s .pre .0 .1) (s .pre .1) (m .either .ensures .0) (m .either .ensures .1)
+    (λ k. rw e (c .before .replaced .ensures k)) (sym f) (rw (eq-eqb _ _ (c .if1 .taken))) refl
 
 returns-2 : tie.Need-returns-2
 returns-2 c =
     let s : tie.Start = search needs in
     let small : s .args .instruction .work < 256 = search needs in
     let m : tie.After-either = search needs in
-    let a = s .args in (
-      λ p e f.
-          compared (a .instruction) (a .x) (a .which) _ p small (s .pre .0 .2) (a .n) (m .either .result .found) (m .either .result .refused)
-          (record { vmr = _; vcr = _; notes = _; wrote = 0 }) (s .pre .0 .1) (s .pre .1) (m .either .ensures .0) (m .either .ensures .1)
-          (λ k. rw e (c .before .replaced .ensures k)) (sym f) (rw (ne-eqb _ _ (c .if1 .left))),
-      refl,
-    )
+    let a = s .args in
+    λ d g e f.
+    compared (a .instruction) (a .x) (a .which) _ d g small (s .pre .0 .2) (a .n) (m .either .result .found) (m .either .result .refused)
+    (record { vmr = _; vcr = _; notes = _; wrote = 0 }) (s .pre .0 .1) (s .pre .1) (m .either .ensures .0) (m .either .ensures .1)
+    (λ k. rw e (c .before .replaced .ensures k)) (sym f) (rw (ne-eqb _ _ (c .if1 .left))) refl
 
 pub over-spec : {M : Type 1} → statement M
 over-spec =
