@@ -7,9 +7,8 @@ use mathlib.Core.List.{List}
 use Prim.Native.Nat.{ℕ, _≤_}
 use lib.Dec.{T}
 use lib.ListN.{length}
-use Rattle.machine.specs.declared.Gathered.{Gathered}
-use Rattle.machine.specs.Run.{Run, joined}
-use Rattle.machine.proofs.Gather.{joined-assoc, joined-comm}
+use Rattle.machine.specs.Run.{Added, Run, joined}
+use Rattle.machine.proofs.Gather.{joined-swap}
 use Rattle.order.specs.Order.{Mem, has}
 use Rattle.touch.specs.Touch.{countPlace, meet, conflict}
 use Rattle.order.proofs.Tests.{T-dec, T-or-l, T-or-r, has→mem, mem→has}
@@ -18,7 +17,7 @@ use Rattle.touch.proofs.Contents.{get, Still, equal-runs}
 
 -- a run at VLR n
 abbrev pub HasVlr : ℕ → Run → Type 0
-HasVlr n r = r .progress .control .vlr ≡ n
+HasVlr n r = r .control .vlr ≡ n
 
 -- the runs have the same contents at the places of both lists
 abbrev pub Agree : List ℕ → List ℕ → Run → Run → Type 0
@@ -27,19 +26,16 @@ Agree rs ws r r′ = (p : ℕ) → p ≤ countPlace → Mem p rs ⊎ Mem p ws �
 -- a step that reads and writes these places: it changes no other; what it leaves in those that it writes, and what it adds to what the run gathers, it
 -- makes of these places alone
 pub record Does (n : ℕ) (step : Run → Run) (rs ws : List ℕ) : Type 0 where
-  pub adds : Run → Gathered
+  pub adds : Run → Added
   pub still : (r : Run) → HasVlr n r → Still r (step r)
   pub keeps : (r : Run) → HasVlr n r → (p : ℕ) → p ≤ countPlace → (Mem p ws → ⊥) → get p (step r) ≡ get p r
   pub leaves : (r r′ : Run) → HasVlr n r → HasVlr n r′ → length (r .elements) ≡ length (r′ .elements) → Agree rs ws r r′ → (p : ℕ) → p ≤ countPlace
       → Mem p ws → get p (step r) ≡ get p (step r′)
   pub same-adds : (r r′ : Run) → HasVlr n r → HasVlr n r′ → Agree rs ws r r′ → adds r ≡ adds r′
-  pub gathers : (r : Run) → step r .progress .gathered ≡ joined (r .progress .gathered) (adds r)
+  pub gathers : (r : Run) → step r .gathered ≡ joined (r .gathered) (adds r)
 
 abbrev Disjoint : List ℕ → List ℕ → Type 0
 Disjoint xs ys = (p : ℕ) → Mem p xs → Mem p ys → ⊥
-
-joined-swap : (g a b : Gathered) → joined (joined g a) b ≡ joined (joined g b) a
-joined-swap g a b = joined-assoc g a b ∙ ap (joined g) (joined-comm a b) ∙ sym (joined-assoc g b a)
 
 module _ (n : ℕ) (f g : Run → Run) (rf wf rg wg : List ℕ) (df : Does n f rf wf) (dg : Does n g rg wg)
     (ww : Disjoint wf wg) (wr : Disjoint wf rg) (rw′ : Disjoint rf wg) (r : Run) (h : HasVlr n r)
@@ -71,11 +67,11 @@ module _ (n : ℕ) (f g : Run → Run) (rf wf rg wg : List ℕ) (df : Does n f r
             (df .keeps (g r) hg p k (λ m. a (mem→has p wf m)) ∙ dg .keeps r h p k (λ m. b (mem→has p wg m)))
             ∙ sym (dg .keeps (f r) hf p k (λ m. b (mem→has p wg m)) ∙ df .keeps r h p k (λ m. a (mem→has p wf m)))
 
-    gather : f (g r) .progress .gathered ≡ g (f r) .progress .gathered
+    gather : f (g r) .gathered ≡ g (f r) .gathered
     gather =
         df .gathers (g r)
         ∙ ap₂ joined (dg .gathers r) (df .same-adds (g r) r hg h for-f)
-        ∙ joined-swap (r .progress .gathered) (dg .adds r) (df .adds r)
+        ∙ joined-swap (r .gathered) (dg .adds r) (df .adds r)
         ∙ sym (dg .gathers (f r) ∙ ap₂ joined (df .gathers r) (dg .same-adds (f r) r hf h for-g))
 
     stills : Still (g (f r)) (f (g r))

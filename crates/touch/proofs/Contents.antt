@@ -12,8 +12,7 @@ use borrow.Author.Tests.{lt-ltb, le-ltb}
 use Rattle.numbers.specs.Choice.{pick}
 use Rattle.numbers.specs.Bits.{withBit}
 use Rattle.numbers.proofs.BitLaws.{digit, same-digits, digit-replaced, digit-kept}
-use Rattle.machine.specs.declared.Gathered.{Gathered}
-use Rattle.machine.specs.Run.{Run, run, progress}
+use Rattle.machine.specs.Run.{Gathered, Added, Run, run}
 use Rattle.state.specs.State.{withVmr}
 use Rattle.machine.specs.Step.{recorded}
 use Rattle.touch.specs.Touch.{maskPlace, countPlace}
@@ -32,19 +31,19 @@ set-same l l′ p v e = go (decLt p (length l))
 unfoldable pub get : ℕ → Run → ℕ
 get p r =
     pick (ltb p 1024) (getD (r .elements) p 0)
-    (pick (ltb p countPlace) (digit (r .progress .control .vmr) (p - 1024)) (r .progress .control .vcr))
+    (pick (ltb p countPlace) (digit (r .control .vmr) (p - 1024)) (r .control .vcr))
 
 pub get-element : (p : ℕ) (r : Run) → p < 1024 → get p r ≡ getD (r .elements) p 0
 unfolding get
 get-element p r h = rw (lt-ltb p 1024 h)
 
-pub get-mask : (i : ℕ) (r : Run) → i < 64 → get (maskPlace i) r ≡ digit (r .progress .control .vmr) i
+pub get-mask : (i : ℕ) (r : Run) → i < 64 → get (maskPlace i) r ≡ digit (r .control .vmr) i
 unfolding get
 get-mask i r h =
     rw (le-ltb (maskPlace i) 1024 (omega arith), lt-ltb (maskPlace i) countPlace (omega arith))
-    (ap (digit (r .progress .control .vmr)) (omega arith))
+    (ap (digit (r .control .vmr)) (omega arith))
 
-pub get-count : (r : Run) → get countPlace r ≡ r .progress .control .vcr
+pub get-count : (r : Run) → get countPlace r ≡ r .control .vcr
 unfolding get
 get-count r = refl
 
@@ -61,21 +60,21 @@ by-place P f g c p h = go (decLt p 1024) (decLt p countPlace)
 pub record Still (r r′ : Run) : Type 0 where
   pub long : length (r′ .elements) ≡ length (r .elements)
   pub past : (p : ℕ) → 1024 ≤ p → getD (r′ .elements) p 0 ≡ getD (r .elements) p 0
-  pub vlr : r′ .progress .control .vlr ≡ r .progress .control .vlr
-  pub vaer : r′ .progress .control .vaer ≡ r .progress .control .vaer
-  pub vpsr : r′ .progress .control .vpsr ≡ r .progress .control .vpsr
-  pub high : (k : ℕ) → 64 ≤ k → digit (r′ .progress .control .vmr) k ≡ digit (r .progress .control .vmr) k
+  pub vlr : r′ .control .vlr ≡ r .control .vlr
+  pub vaer : r′ .control .vaer ≡ r .control .vaer
+  pub vpsr : r′ .control .vpsr ≡ r .control .vpsr
+  pub high : (k : ℕ) → 64 ≤ k → digit (r′ .control .vmr) k ≡ digit (r .control .vmr) k
 
 -- the parts of a run
 parts : (l l′ : List ℕ) (vlr vlr′ vmr vmr′ vcr vcr′ vaer vaer′ vpsr vpsr′ : ℕ) (t t′ : Gathered)
     → l ≡ l′ → vlr ≡ vlr′ → vmr ≡ vmr′ → vcr ≡ vcr′ → vaer ≡ vaer′ → vpsr ≡ vpsr′ → t ≡ t′
-    → run l (progress (record { vlr = vlr; vmr = vmr; vcr = vcr; vaer = vaer; vpsr = vpsr }) t)
-    ≡ run l′ (progress (record { vlr = vlr′; vmr = vmr′; vcr = vcr′; vaer = vaer′; vpsr = vpsr′ }) t′)
+    → run l (record { vlr = vlr; vmr = vmr; vcr = vcr; vaer = vaer; vpsr = vpsr }) t
+    ≡ run l′ (record { vlr = vlr′; vmr = vmr′; vcr = vcr′; vaer = vaer′; vpsr = vpsr′ }) t′
 parts l l′ vlr vlr′ vmr vmr′ vcr vcr′ vaer vaer′ vpsr vpsr′ t t′ a b c d e f g = cc
 
 -- RUNS ARE EQUAL where their places are, and what no place shows
 pub equal-runs : (r r′ : Run) → Still r r′ → ((p : ℕ) → p ≤ countPlace → get p r′ ≡ get p r)
-    → r′ .progress .gathered ≡ r .progress .gathered → r′ ≡ r
+    → r′ .gathered ≡ r .gathered → r′ ≡ r
 equal-runs r r′ still places gathers =
     parts _ _ _ _ _ _ _ _ _ _ _ _ _ _
     (ext-getD 0 (r′ .elements) (r .elements) (still .long) elements)
@@ -91,44 +90,44 @@ equal-runs r r′ still places gathers =
         go (yes k) = sym (get-element i r′ k) ∙ places i (omega arith) ∙ get-element i r k
         go (no k) = still .past i (omega arith)
 
-    mask : (i : ℕ) → digit (r′ .progress .control .vmr) i ≡ digit (r .progress .control .vmr) i
+    mask : (i : ℕ) → digit (r′ .control .vmr) i ≡ digit (r .control .vmr) i
     mask i = go (decLt i 64)
       where
-        go : Dec (i < 64) → digit (r′ .progress .control .vmr) i ≡ digit (r .progress .control .vmr) i
+        go : Dec (i < 64) → digit (r′ .control .vmr) i ≡ digit (r .control .vmr) i
         go (yes h) = sym (get-mask i r′ h) ∙ places (maskPlace i) (omega arith) ∙ get-mask i r h
         go (no h) = still .high i (omega arith)
 
 -- ---- one place replaced
 
 -- mask bit i
-abbrev pub marked : ℕ → ℕ → Run → Run
-marked i v r = run (r .elements) (progress (withVmr (r .progress .control) (withBit (r .progress .control .vmr) i v)) (r .progress .gathered))
+abbrev pub masked : ℕ → ℕ → Run → Run
+masked i v r = run (r .elements) (withVmr (r .control) (withBit (r .control .vmr) i v)) (r .gathered)
 
 -- the element at p
 abbrev pub stored : ℕ → ℕ → Run → Run
-stored p v r = run (set (r .elements) p v) (r .progress)
+stored p v r = run (set (r .elements) p v) (r .control) (r .gathered)
 
 module _ (i v : ℕ) (r : Run) (small : i < 64) (one : v < 2) where
-  pub marked-here : get (maskPlace i) (marked i v r) ≡ v
-  marked-here = get-mask i (marked i v r) small ∙ digit-replaced (r .progress .control .vmr) i v one
+  pub masked-here : get (maskPlace i) (masked i v r) ≡ v
+  masked-here = get-mask i (masked i v r) small ∙ digit-replaced (r .control .vmr) i v one
 
-  pub marked-keeps : (p : ℕ) → p ≤ countPlace → (p ≡ maskPlace i → ⊥) → get p (marked i v r) ≡ get p r
-  marked-keeps =
-      by-place (λ (p : ℕ). (p ≡ maskPlace i → ⊥) → get p (marked i v r) ≡ get p r)
-      (λ p h other. get-element p (marked i v r) h ∙ sym (get-element p r h))
+  pub masked-keeps : (p : ℕ) → p ≤ countPlace → (p ≡ maskPlace i → ⊥) → get p (masked i v r) ≡ get p r
+  masked-keeps =
+      by-place (λ (p : ℕ). (p ≡ maskPlace i → ⊥) → get p (masked i v r) ≡ get p r)
+      (λ p h other. get-element p (masked i v r) h ∙ sym (get-element p r h))
       (λ j h other.
-      get-mask j (marked i v r) h ∙ digit-kept (r .progress .control .vmr) i v one j (λ e. other (ap maskPlace e)) ∙ sym (get-mask j r h))
-      (λ other. get-count (marked i v r) ∙ sym (get-count r))
+      get-mask j (masked i v r) h ∙ digit-kept (r .control .vmr) i v one j (λ e. other (ap maskPlace e)) ∙ sym (get-mask j r h))
+      (λ other. get-count (masked i v r) ∙ sym (get-count r))
 
-  pub marked-still : Still r (marked i v r)
-  marked-still =
+  pub masked-still : Still r (masked i v r)
+  masked-still =
       record {
         long = refl;
         past = λ p h. refl;
         vlr = refl;
         vaer = refl;
         vpsr = refl;
-        high = λ k h. digit-kept (r .progress .control .vmr) i v one k (λ e. omega arith);
+        high = λ k h. digit-kept (r .control .vmr) i v one k (λ e. omega arith);
       }
 
 module _ (x v : ℕ) (r : Run) (small : x < 1024) where
@@ -156,9 +155,9 @@ stored-same x v r r′ small long =
     get-element x (stored x v r) small ∙ set-same (r .elements) (r′ .elements) x v long ∙ sym (get-element x (stored x v r′) small)
 
 -- what is gathered stands at no place
-pub recorded-keeps : (n p : ℕ) (r : Run) → get p (recorded n r) ≡ get p r
+pub recorded-keeps : (a : Added) (p : ℕ) (r : Run) → get p (recorded a r) ≡ get p r
 unfolding get
-recorded-keeps n p r = refl
+recorded-keeps a p r = refl
 
-pub recorded-still : (n : ℕ) (r s : Run) → Still r s → Still r (recorded n s)
-recorded-still n r s k = record { long = k .long; past = k .past; vlr = k .vlr; vaer = k .vaer; vpsr = k .vpsr; high = k .high }
+pub recorded-still : (a : Added) (r s : Run) → Still r s → Still r (recorded a s)
+recorded-still a r s k = record { long = k .long; past = k .past; vlr = k .vlr; vaer = k .vaer; vpsr = k .vpsr; high = k .high }

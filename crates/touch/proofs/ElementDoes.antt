@@ -18,15 +18,14 @@ use Rattle.opcodes.specs.ControlWord.{fieldOf}
 use Rattle.opcodes.specs.Working.{Below}
 use Rattle.element.specs.declared.Out.{Out}
 use Rattle.element.specs.Receives.{resultOf}
-use Rattle.machine.specs.declared.Gathered.{Gathered}
-use Rattle.machine.specs.Run.{Run, nothing, noted, joined}
-use Rattle.machine.specs.Step.{received, registerBit, notes, written, worked, elementStep}
+use Rattle.machine.specs.Run.{Gathered, Added, Run, added, joined}
+use Rattle.machine.specs.Step.{received, registerBit, notes, written, marking, worked, elementStep}
 use Rattle.opcodes.specs.Masking.{operated}
 use Rattle.machine.proofs.Gather.{joined-nothing}
 use Rattle.order.specs.Order.{Mem}
 use Rattle.touch.specs.Touch.{elementPlace, maskPlace, countPlace, placeIf, elementReads, writtenPlace}
 use Rattle.touch.proofs.Places.{mem-append-l, mem-append-r}
-use Rattle.touch.proofs.Contents.{get, get-element, get-mask, marked, stored, marked-here, marked-keeps, marked-still, stored-same, stored-keeps}
+use Rattle.touch.proofs.Contents.{get, get-element, get-mask, masked, stored, masked-here, masked-keeps, masked-still, stored-same, stored-keeps}
 use Rattle.touch.proofs.Contents.{stored-still, recorded-keeps, recorded-still, Still}
 use Rattle.touch.proofs.Commute.{HasVlr, Agree, Does}
 
@@ -74,17 +73,17 @@ module _ (n : ℕ) (ins : Instruction) (scalar i : ℕ) (regs : Below ins) (smal
         let k : elementPlace x i < 1024 = omega arith in
         sym (get-element (elementPlace x i) r k) ∙ agree (elementPlace x i) (omega arith) m ∙ get-element (elementPlace x i) r′ k
 
-    same-matches : readsMask ins ≡ true → matches (r .progress .control .vmr) (ins .mtf) i ≡ matches (r′ .progress .control .vmr) (ins .mtf) i
+    same-matches : readsMask ins ≡ true → matches (r .control .vmr) (ins .mtf) i ≡ matches (r′ .control .vmr) (ins .mtf) i
     same-matches e =
         ap (λ (d : ℕ). Bool·beq (eqb d 1) (ins .mtf))
         (sym (get-mask i r small) ∙ agree (maskPlace i) (omega arith) (inl (reads-bit ins i e)) ∙ get-mask i r′ small)
 
-    same-operated : operated ins (r .progress .control) i ≡ operated ins (r′ .progress .control) i
+    same-operated : operated ins (r .control) i ≡ operated ins (r′ .control) i
     unfolding operated
     same-operated = ap₂ (λ (v : ℕ) (t : Bool). ltb i v && t) (h ∙ sym h′) (go (ins .moe) (ignoresMoe ins) same-matches)
       where
-        go : (x y : Bool) → ((x || y) ≡ true → matches (r .progress .control .vmr) (ins .mtf) i ≡ matches (r′ .progress .control .vmr) (ins .mtf) i)
-            → (not x || y || matches (r .progress .control .vmr) (ins .mtf) i) ≡ (not x || y || matches (r′ .progress .control .vmr) (ins .mtf) i)
+        go : (x y : Bool) → ((x || y) ≡ true → matches (r .control .vmr) (ins .mtf) i ≡ matches (r′ .control .vmr) (ins .mtf) i)
+            → (not x || y || matches (r .control .vmr) (ins .mtf) i) ≡ (not x || y || matches (r′ .control .vmr) (ins .mtf) i)
         go true true s = refl
         go true false s = s refl
         go false y s = refl
@@ -102,11 +101,14 @@ module _ (n : ℕ) (ins : Instruction) (scalar i : ℕ) (regs : Below ins) (smal
 
   -- ---- what it changes
   -- what it adds to what the run gathers
-  abbrev noting : Out → Gathered
-  noting o = noted (notes (registerBit (writesMask ins) (ins .vc .0)) (o .types))
+  abbrev noting : Out → Added
+  noting o = added (notes (registerBit (writesMask ins) (ins .vc .0)) (o .types)) (ins .vc .0) (marking ins i)
 
-  adds : Run → Gathered
-  adds r = pick (operated ins (r .progress .control) i) (noting (received ins scalar i r)) nothing
+  abbrev nothing : Added
+  nothing = added 0 (ins .vc .0) 0
+
+  adds : Run → Added
+  adds r = pick (operated ins (r .control) i) (noting (received ins scalar i r)) nothing
 
   -- where its element stands
   place-small : elementPlace (ins .vc .0) i < 1024
@@ -117,16 +119,16 @@ module _ (n : ℕ) (ins : Instruction) (scalar i : ℕ) (regs : Below ins) (smal
   written-keeps value r p k out = go (writesMask ins) (λ e. out (inl e))
     where
       go : (t : Bool) → (p ≡ pick t (maskPlace i) (elementPlace (ins .vc .0) i) → ⊥)
-          → get p (pick t (marked i (value % 2) r) (stored (placeOf (ins .vc .0) i) value r)) ≡ get p r
-      go true f = marked-keeps i (value % 2) r small (mod-lt value (omega arith)) p k f
+          → get p (pick t (masked i (value % 2) r) (stored (placeOf (ins .vc .0) i) value r)) ≡ get p r
+      go true f = masked-keeps i (value % 2) r small (mod-lt value (omega arith)) p k f
       go false f = stored-keeps (placeOf (ins .vc .0) i) value r place-small p k f
 
   written-still : (value : ℕ) (r : Run) → Still r (written ins i value r)
   unfolding written
   written-still value r = go (writesMask ins)
     where
-      go : (t : Bool) → Still r (pick t (marked i (value % 2) r) (stored (placeOf (ins .vc .0) i) value r))
-      go true = marked-still i (value % 2) r small (mod-lt value (omega arith))
+      go : (t : Bool) → Still r (pick t (masked i (value % 2) r) (stored (placeOf (ins .vc .0) i) value r))
+      go true = masked-still i (value % 2) r small (mod-lt value (omega arith))
       go false = stored-still (placeOf (ins .vc .0) i) value r place-small
 
   -- what stands there afterwards goes by the value alone
@@ -136,14 +138,14 @@ module _ (n : ℕ) (ins : Instruction) (scalar i : ℕ) (regs : Below ins) (smal
   written-here value r r′ long = go (writesMask ins)
     where
       go : (t : Bool)
-          → get (pick t (maskPlace i) (elementPlace (ins .vc .0) i)) (pick t (marked i (value % 2) r) (stored (placeOf (ins .vc .0) i) value r))
-          ≡ get (pick t (maskPlace i) (elementPlace (ins .vc .0) i)) (pick t (marked i (value % 2) r′) (stored (placeOf (ins .vc .0) i) value r′))
-      go true = marked-here i (value % 2) r small (mod-lt value (omega arith)) ∙ sym (marked-here i (value % 2) r′ small (mod-lt value (omega arith)))
+          → get (pick t (maskPlace i) (elementPlace (ins .vc .0) i)) (pick t (masked i (value % 2) r) (stored (placeOf (ins .vc .0) i) value r))
+          ≡ get (pick t (maskPlace i) (elementPlace (ins .vc .0) i)) (pick t (masked i (value % 2) r′) (stored (placeOf (ins .vc .0) i) value r′))
+      go true = masked-here i (value % 2) r small (mod-lt value (omega arith)) ∙ sym (masked-here i (value % 2) r′ small (mod-lt value (omega arith)))
       go false = stored-same (placeOf (ins .vc .0) i) value r r′ place-small long
 
   step-keeps : (r : Run) → HasVlr n r → (p : ℕ) → p ≤ countPlace → (Mem p (writtenPlace ins i ∷ []) → ⊥) → get p (elementStep ins scalar i r) ≡ get p r
   unfolding elementStep worked
-  step-keeps r h p k out = go (operated ins (r .progress .control) i)
+  step-keeps r h p k out = go (operated ins (r .control) i)
     where
       go : (t : Bool) → get p (pick t (worked ins scalar i r) r) ≡ get p r
       go true = recorded-keeps _ p (written ins i (received ins scalar i r .value) r) ∙ written-keeps (received ins scalar i r .value) r p k out
@@ -151,7 +153,7 @@ module _ (n : ℕ) (ins : Instruction) (scalar i : ℕ) (regs : Below ins) (smal
 
   step-still : (r : Run) → HasVlr n r → Still r (elementStep ins scalar i r)
   unfolding elementStep worked
-  step-still r h = go (operated ins (r .progress .control) i)
+  step-still r h = go (operated ins (r .control) i)
     where
       go : (t : Bool) → Still r (pick t (worked ins scalar i r) r)
       go true = recorded-still _ r (written ins i (received ins scalar i r .value) r) (written-still (received ins scalar i r .value) r)
@@ -163,9 +165,9 @@ module _ (n : ℕ) (ins : Instruction) (scalar i : ℕ) (regs : Below ins) (smal
   unfolding elementStep worked
   step-leaves r r′ h h′ long agree p k (inl e) =
       ap (λ (t : Bool). get p (pick t (worked ins scalar i r) r)) (same-operated r r′ h h′ agree)
-      ∙ subst (λ (x : ℕ). get x (pick (operated ins (r′ .progress .control) i) (worked ins scalar i r) r) ≡ get x
-      (pick (operated ins (r′ .progress .control) i) (worked ins scalar i r′) r′)) (sym e)
-      (go (operated ins (r′ .progress .control) i))
+      ∙ subst (λ (x : ℕ). get x (pick (operated ins (r′ .control) i) (worked ins scalar i r) r) ≡ get x
+      (pick (operated ins (r′ .control) i) (worked ins scalar i r′) r′)) (sym e)
+      (go (operated ins (r′ .control) i))
     where
       go : (t : Bool) → get (writtenPlace ins i) (pick t (worked ins scalar i r) r) ≡ get (writtenPlace ins i) (pick t (worked ins scalar i r′) r′)
       go true =
@@ -180,22 +182,22 @@ module _ (n : ℕ) (ins : Instruction) (scalar i : ℕ) (regs : Below ins) (smal
   unfolding adds
   same-adds r r′ h h′ agree = ap₂ (λ (t : Bool) (o : Out). pick t (noting o) nothing) (same-operated r r′ h h′ agree) (same-received r r′ h h′ agree)
 
-  written-gathers : (value : ℕ) (r : Run) → written ins i value r .progress .gathered ≡ r .progress .gathered
+  written-gathers : (value : ℕ) (r : Run) → written ins i value r .gathered ≡ r .gathered
   unfolding written
   written-gathers value r = go (writesMask ins)
     where
-      go : (t : Bool) → pick t (marked i (value % 2) r) (stored (placeOf (ins .vc .0) i) value r) .progress .gathered ≡ r .progress .gathered
+      go : (t : Bool) → pick t (masked i (value % 2) r) (stored (placeOf (ins .vc .0) i) value r) .gathered ≡ r .gathered
       go true = refl
       go false = refl
 
-  step-gathers : (r : Run) → elementStep ins scalar i r .progress .gathered ≡ joined (r .progress .gathered) (adds r)
+  step-gathers : (r : Run) → elementStep ins scalar i r .gathered ≡ joined (r .gathered) (adds r)
   unfolding elementStep worked adds
-  step-gathers r = go (operated ins (r .progress .control) i)
+  step-gathers r = go (operated ins (r .control) i)
     where
-      go : (t : Bool) → pick t (worked ins scalar i r) r .progress .gathered
-          ≡ joined (r .progress .gathered) (pick t (noting (received ins scalar i r)) nothing)
+      go : (t : Bool) → pick t (worked ins scalar i r) r .gathered
+          ≡ joined (r .gathered) (pick t (noting (received ins scalar i r)) nothing)
       go true = ap (λ (g : Gathered). joined g (noting (received ins scalar i r))) (written-gathers (received ins scalar i r .value) r)
-      go false = sym (joined-nothing (r .progress .gathered))
+      go false = sym (joined-nothing (r .gathered) (ins .vc .0))
 
   pub element-does : Does n (elementStep ins scalar i) (elementReads ins i) (writtenPlace ins i ∷ [])
   element-does = record {
