@@ -107,6 +107,10 @@ gatheredIn m n = record { vaer = n .vaer; recorded = n .recorded; marks = m }
 abbrev pub underWay : List ℕ → List ℕ → Progress → Run
 underWay l m p = run l (p .control) (gatheredIn m (p .noted))
 
+-- one that begins, with nothing noted
+abbrev pub starting : Control → Progress
+starting c = record { control = c; noted = record { vaer = 0; recorded = false } }
+
 -- the run after what was done, which left the elements l
 abbrev pub effected : List ℕ → Instruction → Effect → Control → Gathered → Run
 effected l ins e c g = run l (withVcr (withVmr c (e .vmr)) (e .vcr)) (joined g (added (e .notes) (ins .vc .0) (e .wrote)))

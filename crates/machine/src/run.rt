@@ -6,15 +6,14 @@ use state::Control;
 ghost use mathlib.Core.Path.{_≡_};
 ghost use Prim.Native.Nat.{ℕ};
 ghost use mathlib.Core.List.{List};
-ghost use Rattle.state.specs.Marks.{marked, withMarks};
-ghost use Rattle.state.specs.State.{state};
-ghost use Rattle.machine.specs.Run.{added, joined, begun, ended};
+ghost use Rattle.state.specs.Marks.{withMarks};
+ghost use Rattle.machine.specs.Run.{added, joined, ended};
 ghost use Rattle.machine.specs.Step.{notes as notesOf};
-ghost use Rattle.machine.specs.Working.{gatheredIn, underWay};
+ghost use Rattle.machine.specs.Working.{gatheredIn, starting};
 
 // A run that begins.
 pub fn begin(control: Control) -> Progress
-    ensures { λ r. ⌜ ((l m : List ℕ) → underWay l m r ≡ begun (marked (state l control) m)) ⌝ }
+    ensures { λ r. ⌜ r ≡ starting control ⌝ }
 {
     Progress {
         control,

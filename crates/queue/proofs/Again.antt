@@ -6,7 +6,8 @@ use Prim.Native.Nat.{ℕ, zero, suc}
 use Rattle.numbers.proofs.Tests.{pick-true, pick-false}
 use Rattle.state.specs.declared.answer.Answer.the-variants.{Disabled, QueueRefused, OutOfRange}
 use Rattle.state.specs.Answer.{isDone}
-use Rattle.state.specs.State.{State, inRange, enabled}
+use Rattle.state.specs.Marks.{Marked}
+use Rattle.state.specs.State.{inRange, enabled}
 use Rattle.state.proofs.Ranges.{ranged, in-range}
 use Rattle.machine.specs.Run.{Run, begun}
 use Rattle.machine.proofs.Ranged.{InRange, whole-ranged, ended-ranged, ended-disabled}
@@ -21,22 +22,22 @@ unfolding straight
 straight-ranged q zero r g = g
 straight-ranged q (suc n) r g = whole-ranged (instructionAt q n) (scalarAt q n) (at-below q n .vc) (straight q n r) (straight-ranged q n r g)
 
-module _ (q : Queue) (s : State) (accepted : isDone (acceptance (s .control) q) ≡ true) where
+module _ (q : Queue) (b : Marked) (accepted : isDone (acceptance (b .state .control) q) ≡ true) where
   abbrev ran : Run
-  ran = straight q (size q) (begun s)
+  ran = straight q (size q) (begun b)
 
   ran-ranged : InRange ran
   ran-ranged =
-      straight-ranged q (size q) (begun s) (record { control = ranged (s .control) (fine-in-range (s .control) q accepted); gathered = refl })
+      straight-ranged q (size q) (begun b) (record { control = ranged (b .state .control) (fine-in-range (b .state .control) q accepted); gathered = refl })
 
-  pub run-in-range : inRange (ranThrough q s .control) ≡ true
+  pub run-in-range : inRange (ranThrough q b .state .control) ≡ true
   unfolding ranThrough
-  run-in-range = in-range (ranThrough q s .control) (ended-ranged ran ran-ranged)
+  run-in-range = in-range (ranThrough q b .state .control) (ended-ranged ran ran-ranged)
 
   -- A SECOND CALL, of any queue, where something was recorded in the first
-  pub second-call : ran .progress .gathered .recorded ≡ true → (q′ : Queue) → wellFormed q′ ≡ true → acceptance (ranThrough q s .control) q′ ≡ Disabled
+  pub second-call : ran .gathered .recorded ≡ true → (q′ : Queue) → wellFormed q′ ≡ true → acceptance (ranThrough q b .state .control) q′ ≡ Disabled
   unfolding acceptance ranThrough
   second-call e q′ w =
-      pick-true (inRange (ranThrough q s .control)) _ OutOfRange run-in-range
+      pick-true (inRange (ranThrough q b .state .control)) _ OutOfRange run-in-range
       ∙ pick-true (wellFormed q′) _ QueueRefused w
-      ∙ pick-false (enabled (ranThrough q s .control)) (positions q′ (size q′)) Disabled (ended-disabled ran ran-ranged e)
+      ∙ pick-false (enabled (ranThrough q b .state .control)) (positions q′ (size q′)) Disabled (ended-disabled ran ran-ranged e)

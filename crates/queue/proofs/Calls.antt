@@ -13,11 +13,13 @@ use Rattle.state.specs.declared.answer.Answer.{Answer}
 use Rattle.state.specs.declared.answer.Answer.the-variants.{Done, Disabled, QueueRefused, OrderRefused, OutOfRange}
 use Rattle.state.specs.Answer.{isDone}
 use Rattle.state.specs.declared.answer.Ended.{Ended}
-use Rattle.state.specs.Outcome.{Outcome, outcome, refused, refusedState}
-use Rattle.state.proofs.Refusing.{refuses-state}
-use Rattle.state.specs.State.{State, state, inRange, enabled, lengthInRange, vaerInRange, vpsrInRange}
+use Rattle.state.specs.Marks.{Marked, marked}
+use Rattle.state.specs.Outcome.{Outcome, outcome, refused, refusedMarked}
+use Rattle.state.proofs.Refusing.{refuses-marked}
+use Rattle.state.specs.State.{state, inRange, enabled, lengthInRange, vaerInRange, vpsrInRange}
 use Rattle.machine.specs.declared.Progress.{Progress}
-use Rattle.machine.specs.Run.{run, progress, nothing, ended, finished}
+use Rattle.machine.specs.Run.{ended, finished}
+use Rattle.machine.specs.Working.{starting, underWay}
 use Rattle.touch.specs.Parts.{Queue, size, instructionAt}
 use Rattle.queue.specs.Queue.{wellFormed, positions, acceptance, straight}
 use Rattle.queue.specs.Run.{ranThrough, queueRun, verdictOf, byVerdict, ranBy, walkedRun}
@@ -68,27 +70,31 @@ pub fine-in-range : (c : Control) (q : Queue) → isDone (acceptance c q) ≡ tr
 unfolding acceptance
 fine-in-range c q e = pick-fine (inRange c) _ OutOfRange refl e .0
 
-module _ (q : Queue) (l : List ℕ) (c : Control) (r : Answer) (asked : r ≡ acceptance c q) where
+module _ (q : Queue) (l m : List ℕ) (c : Control) (r : Answer) (asked : r ≡ acceptance c q) where
+  -- the state that the call is handed, and its marks
+  abbrev here : Marked
+  here = marked (state l c) m
+
   pub reply-bounded : isDone r ≡ true → Bounded c q
   reply-bounded f = fine-bounded c q (sym (ap isDone asked) ∙ f)
 
   -- what a call gives whose accepted queue gives x
-  by-reply : (x : Outcome State) (t : Bool) → isDone r ≡ t → pick t x (refusedState (acceptance c q) (state l c))
-      ≡ pick (isDone (acceptance c q)) x (refusedState (acceptance c q) (state l c))
-  by-reply x t f = sym (ap (λ (b : Bool). pick b x (refusedState (acceptance c q) (state l c))) (sym (ap isDone asked) ∙ f))
+  by-reply : (x : Outcome Marked) (t : Bool) → isDone r ≡ t → pick t x (refusedMarked (acceptance c q) here)
+      ≡ pick (isDone (acceptance c q)) x (refusedMarked (acceptance c q) here)
+  by-reply x t f = sym (ap (λ (b : Bool). pick b x (refusedMarked (acceptance c q) here)) (sym (ap isDone asked) ∙ f))
 
-  by-refusal : (x : Outcome State) → isDone r ≡ false → (d : Ended) → outcome (d .answer) (d .control) ≡ refused r c
-      → outcome (d .answer) (state l (d .control)) ≡ pick (isDone (acceptance c q)) x (refusedState (acceptance c q) (state l c))
-  by-refusal x f d e = refuses-state (state l c) r d e ∙ ap (λ (a : Answer). refusedState a (state l c)) asked ∙ by-reply x false f
+  by-refusal : (x : Outcome Marked) → isDone r ≡ false → (d : Ended) → outcome (d .answer) (d .control) ≡ refused r c
+      → outcome (d .answer) (marked (state l (d .control)) m) ≡ pick (isDone (acceptance c q)) x (refusedMarked (acceptance c q) here)
+  by-refusal x f d e = refuses-marked here r d e ∙ ap (λ (a : Answer). refusedMarked a here) asked ∙ by-reply x false f
 
   -- ---- straight through
   pub run-refused : isDone r ≡ false → (d : Ended) → outcome (d .answer) (d .control) ≡ refused r c
-      → outcome (d .answer) (state l (d .control)) ≡ queueRun q (state l c)
+      → outcome (d .answer) (marked (state l (d .control)) m) ≡ queueRun q here
   unfolding queueRun
   run-refused = by-refusal _
 
   module _ (f : isDone r ≡ true) (program : List Instruction) (same : (k : ℕ) → k < size q → decodedAt program k ≡ instructionAt q k) where
-    pub through-meets : (p : Progress) → p ≡ progress c nothing
+    pub through-meets : (p : Progress) → p ≡ starting c
         → ((p .control .vlr ≤ 64) × (length (q .scalars) ≤ 16)) × ((k : ℕ) → k < length (q .scalars) → Runs (decodedAt program k))
     through-meets p e =
         let a = reply-bounded f in (
@@ -96,37 +102,37 @@ module _ (q : Queue) (l : List ℕ) (c : Control) (r : Answer) (asked : r ≡ ac
           λ k h. rw (same k (rw (a .lengths .scalars) at h)) (at-runs q k),
         )
 
-    module _ (l′ : List ℕ) (p p′ : Progress) (c′ : Control) (starts : p ≡ progress c nothing) (ends : c′ ≡ ended p′) where
-      through : run l′ p′ ≡ throughBy program (q .scalars) (length (q .scalars)) (run l p) → state l′ c′ ≡ ranThrough q (state l c)
+    module _ (l′ m′ : List ℕ) (p p′ : Progress) (c′ : Control) (starts : p ≡ starting c) (ends : c′ ≡ ended (p′ .control) (p′ .noted .vaer) (p′ .noted .recorded)) where
+      through : underWay l′ m′ p′ ≡ throughBy program (q .scalars) (length (q .scalars)) (underWay l m p) → marked (state l′ c′) m′ ≡ ranThrough q here
       unfolding ranThrough
       through e =
-          ap (state l′) ends
+          ap (λ (d : Control). marked (state l′ d) m′) ends
           ∙ ap finished
           (e
-          ∙ ap (λ (n : ℕ). throughBy program (q .scalars) n (run l p)) (reply-bounded f .lengths .scalars)
-          ∙ same-through q program same (size q) (omega arith) (run l p)
-          ∙ ap (λ (b : Progress). straight q (size q) (run l b)) starts)
+          ∙ ap (λ (n : ℕ). throughBy program (q .scalars) n (underWay l m p)) (reply-bounded f .lengths .scalars)
+          ∙ same-through q program same (size q) (omega arith) (underWay l m p)
+          ∙ ap (λ (b : Progress). straight q (size q) (underWay l m b)) starts)
 
-      pub run-done : run l′ p′ ≡ throughBy program (q .scalars) (length (q .scalars)) (run l p) → outcome (Done 0) (state l′ c′) ≡ queueRun q (state l c)
+      pub run-done : underWay l′ m′ p′ ≡ throughBy program (q .scalars) (length (q .scalars)) (underWay l m p) → outcome (Done 0) (marked (state l′ c′) m′) ≡ queueRun q here
       unfolding queueRun
       run-done e = ap (outcome (Done 0)) (through e) ∙ by-reply _ true f
 
   -- ---- by a list
   pub order-refused : isDone r ≡ false → (list : List ℕ) (d : Ended) → outcome (d .answer) (d .control) ≡ refused r c
-      → outcome (d .answer) (state l (d .control)) ≡ walkedRun q list (state l c)
+      → outcome (d .answer) (marked (state l (d .control)) m) ≡ walkedRun q list here
   unfolding walkedRun
   order-refused f list = by-refusal _ f
 
   module _ (f : isDone r ≡ true) (list : List ℕ) where
-    as-walked : byVerdict (state l c) (ranBy q list (state l c)) (verdictOf q (c .vlr) list) ≡ walkedRun q list (state l c)
+    as-walked : byVerdict here (ranBy q list here) (verdictOf q (c .vlr) list) ≡ walkedRun q list here
     unfolding walkedRun
     as-walked = by-reply _ true f
 
     pub order-stopped : (v : Verdict) (place : ℕ) → v ≡ verdictOf q (c .vlr) list → v ≡ verdict.Refused place
         → (d : Ended) → outcome (d .answer) (d .control) ≡ refused (OrderRefused place) c
-        → outcome (d .answer) (state l (d .control)) ≡ walkedRun q list (state l c)
+        → outcome (d .answer) (marked (state l (d .control)) m) ≡ walkedRun q list here
     order-stopped v place e g d k =
-        refuses-state (state l c) (OrderRefused place) d k ∙ ap (byVerdict (state l c) (ranBy q list (state l c))) (sym g ∙ e) ∙ as-walked
+        refuses-marked here (OrderRefused place) d k ∙ ap (byVerdict here (ranBy q list here)) (sym g ∙ e) ∙ as-walked
 
     module _ (program : List Instruction) (same : (k : ℕ) → k < size q → decodedAt program k ≡ instructionAt q k) (v : Verdict)
         (e : v ≡ verdictOf q (c .vlr) list) (permitted : v ≡ verdict.Permitted) where
@@ -142,21 +148,21 @@ module _ (q : Queue) (l : List ℕ) (c : Control) (r : Answer) (asked : r ≡ ac
       entry-of : (x : ℕ) → Mem x list → position x < size q
       entry-of x m = let w = place-in x list (length list) (rw take-length m) in subst (λ (y : ℕ). position y < size q) (w .3) (entry-position (w .0) (w .1))
 
-      by-entries : (l′ : List ℕ) (p p′ : Progress) (c′ : Control) → p ≡ progress c nothing → c′ ≡ ended p′
-          → run l′ p′ ≡ walkOf (actBy program (q .scalars)) list (run l p)
-          → state l′ c′ ≡ ranBy q list (state l c)
+      by-entries : (l′ m′ : List ℕ) (p p′ : Progress) (c′ : Control) → p ≡ starting c → c′ ≡ ended (p′ .control) (p′ .noted .vaer) (p′ .noted .recorded)
+          → underWay l′ m′ p′ ≡ walkOf (actBy program (q .scalars)) list (underWay l m p)
+          → marked (state l′ c′) m′ ≡ ranBy q list here
       unfolding ranBy
-      by-entries l′ p p′ c′ starts ends w =
-          ap (state l′) ends
+      by-entries l′ m′ p p′ c′ starts ends w =
+          ap (λ (d : Control). marked (state l′ d) m′) ends
           ∙ ap finished
           (w
-          ∙ run-same (actBy program (q .scalars)) (act q) list (λ x m z. same-acts q program same x (entry-of x m) z) (run l p)
-          ∙ ap (λ (b : Progress). walkOf (act q) list (run l b)) starts)
+          ∙ run-same (actBy program (q .scalars)) (act q) list (λ x m z. same-acts q program same x (entry-of x m) z) (underWay l m p)
+          ∙ ap (λ (b : Progress). walkOf (act q) list (underWay l m b)) starts)
 
-      pub order-done : (l′ : List ℕ) (p p′ : Progress) (c′ : Control) → p ≡ progress c nothing → c′ ≡ ended p′
-          → run l′ p′ ≡ walkOf (actBy program (q .scalars)) list (run l p)
-          → outcome (Done 0) (state l′ c′) ≡ walkedRun q list (state l c)
-      order-done l′ p p′ c′ starts ends w =
-          ap (outcome (Done 0)) (by-entries l′ p p′ c′ starts ends w)
-          ∙ sym (ap (byVerdict (state l c) (ranBy q list (state l c))) allowed)
+      pub order-done : (l′ m′ : List ℕ) (p p′ : Progress) (c′ : Control) → p ≡ starting c → c′ ≡ ended (p′ .control) (p′ .noted .vaer) (p′ .noted .recorded)
+          → underWay l′ m′ p′ ≡ walkOf (actBy program (q .scalars)) list (underWay l m p)
+          → outcome (Done 0) (marked (state l′ c′) m′) ≡ walkedRun q list here
+      order-done l′ m′ p p′ c′ starts ends w =
+          ap (outcome (Done 0)) (by-entries l′ m′ p p′ c′ starts ends w)
+          ∙ sym (ap (byVerdict here (ranBy q list here)) allowed)
           ∙ as-walked

@@ -42,7 +42,7 @@ module _ (q : Queue) (n : ℕ) (few : n ≤ 64) where
   own-straight r h = steps-straight q n few r (λ l s. run-keeps-vlr q n few l s r h)
 
 -- DEMAND 3: every permitted list of a queue's steps ends in the same whole state as the queue run straight through
-pub permitted-straight : (q : Queue) (r : Run) → r .progress .control .vlr ≤ 64
-    → (l : List ℕ) → verdictOf q (r .progress .control .vlr) l ≡ Permitted → run (act q) l r ≡ straight q (size q) r
+pub permitted-straight : (q : Queue) (r : Run) → r .control .vlr ≤ 64
+    → (l : List ℕ) → verdictOf q (r .control .vlr) l ≡ Permitted → run (act q) l r ≡ straight q (size q) r
 permitted-straight q r few l p =
-    permitted-same q (r .progress .control .vlr) few l p r refl ∙ own-straight q (r .progress .control .vlr) few r refl
+    permitted-same q (r .control .vlr) few l p r refl ∙ own-straight q (r .control .vlr) few r refl

@@ -14,6 +14,7 @@ use Rattle.state.specs.declared.answer.Answer.the-variants.{Done, OrderRefused}
 use Rattle.state.specs.Answer.{isDone}
 use Rattle.state.specs.declared.answer.Ended.{Ended}
 use Rattle.state.specs.Outcome.{outcome, refused as refusedOf}
+use Rattle.state.specs.Marks.{marked}
 use Rattle.state.specs.State.{state}
 use Rattle.opcodes.specs.declared.Instruction.{Instruction}
 use Rattle.opcodes.specs.declared.Decoded.the-variants.{Accepted, Refused}
@@ -21,7 +22,8 @@ use Rattle.opcodes.specs.Working.{Below}
 use Rattle.opcodes.specs.Opcodes.{isMemory}
 use Rattle.opcodes.proofs.Passed.{no-memory, refusal}
 use Rattle.machine.specs.declared.Progress.{Progress}
-use Rattle.machine.specs.Run.{run, progress, nothing, ended}
+use Rattle.machine.specs.Run.{ended}
+use Rattle.machine.specs.Working.{starting, underWay}
 use Rattle.order.specs.declared.Verdict.{Verdict}
 use Rattle.order.specs.declared.Verdict.the-variants as verdict
 use Rattle.touch.specs.Parts.{placeholder, Queue, size, decodedIn, instructionOr, instructionAt}
@@ -138,14 +140,14 @@ module _ (q : Queue) where
     }
 
 -- ---- a call with a list, from what its parts give
-module _ (q : Queue) (l : List ℕ) (c : Control) (r : Answer) (program : List Instruction) (accepts : Accepts c q r program) where
+module _ (q : Queue) (l m : List ℕ) (c : Control) (r : Answer) (program : List Instruction) (accepts : Accepts c q r program) where
   pub listed-refused : isDone r ≡ false → (list : List ℕ) (d : Ended) → outcome (d .answer) (d .control) ≡ refusedOf r c
-      → outcome (d .answer) (state l (d .control)) ≡ walkedRun q list (state l c)
-  listed-refused f = order-refused q l c r (accepts .answered) f
+      → outcome (d .answer) (marked (state l (d .control)) m) ≡ walkedRun q list (marked (state l c) m)
+  listed-refused f = order-refused q l m c r (accepts .answered) f
 
   module _ (passes : isDone r ≡ true) where
     bounds-kept : Bounded c q
-    bounds-kept = reply-bounded q l c r (accepts .answered) passes
+    bounds-kept = reply-bounded q l m c r (accepts .answered) passes
 
     decoding : (j : ℕ) → j < size q → decodedAt program j ≡ instructionAt q j
     decoding = accepts .decoded passes
@@ -170,22 +172,23 @@ module _ (q : Queue) (l : List ℕ) (c : Control) (r : Answer) (program : List I
 
         pub listed-stopped : (place : ℕ) → v ≡ verdict.Refused place
             → (d : Ended) → outcome (d .answer) (d .control) ≡ refusedOf (OrderRefused place) c
-            → outcome (d .answer) (state l (d .control)) ≡ walkedRun q list (state l c)
-        listed-stopped place e = order-stopped q l c r (accepts .answered) passes list v place right e
+            → outcome (d .answer) (marked (state l (d .control)) m) ≡ walkedRun q list (marked (state l c) m)
+        listed-stopped place e = order-stopped q l m c r (accepts .answered) passes list v place right e
 
-        module _ (permitted : v ≡ verdict.Permitted) (p : Progress) (begun : p ≡ progress c nothing) where
+        module _ (permitted : v ≡ verdict.Permitted) (p : Progress) (begun : p ≡ starting c) where
           pub list-meets : ((p .control .vlr ≤ 64) × (length (q .scalars) ≤ 16))
               × (((j : ℕ) → j < length (q .scalars) → Runs (decodedAt program j))
               × ((i : ℕ) → i < length list → position (getD list i 0) < length (q .scalars)))
           list-meets =
-              let t = through-meets q l c r (accepts .answered) passes program decoding p begun in (
+              let t = through-meets q l m c r (accepts .answered) passes program decoding p begun in (
                 t .0,
                 (
                   t .1,
-                  λ i h. rw (bounds-kept .lengths .scalars) (entry-position q l c r (accepts .answered) passes list program decoding v right permitted i h),
+                  λ i h. rw (bounds-kept .lengths .scalars) (entry-position q l m c r (accepts .answered) passes list program decoding v right permitted i h),
                 ),
               )
 
-          pub listed-done : (l′ : List ℕ) (p′ : Progress) (c′ : Control) → c′ ≡ ended p′ → run l′ p′ ≡ walkOf (actBy program (q .scalars)) list (run l p)
-              → outcome (Done 0) (state l′ c′) ≡ walkedRun q list (state l c)
-          listed-done l′ p′ c′ = order-done q l c r (accepts .answered) passes list program decoding v right permitted l′ p p′ c′ begun
+          pub listed-done : (l′ m′ : List ℕ) (p′ : Progress) (c′ : Control) → c′ ≡ ended (p′ .control) (p′ .noted .vaer) (p′ .noted .recorded)
+              → underWay l′ m′ p′ ≡ walkOf (actBy program (q .scalars)) list (underWay l m p)
+              → outcome (Done 0) (marked (state l′ c′) m′) ≡ walkedRun q list (marked (state l c) m)
+          listed-done l′ m′ p′ c′ = order-done q l m c r (accepts .answered) passes list program decoding v right permitted l′ m′ p p′ c′ begun

@@ -117,7 +117,7 @@ module _ (q : Queue) (vlr : ℕ) (k : ℕ) (h : k < size q) where
       ∙ ap (stepOf (instructionAt q k) (scalarAt q k) c) (first-steps c (omega arith) (omega arith) r)
 
   -- all of them: the instruction whole
-  whole-steps : vlr ≤ 64 → (r : Run) → r .progress .control .vlr ≡ vlr → rising (stepIf q (isStep q vlr) k) 64 r ≡ wholeOf (instructionAt q k) (scalarAt q k) r
+  whole-steps : vlr ≤ 64 → (r : Run) → r .control .vlr ≡ vlr → rising (stepIf q (isStep q vlr) k) 64 r ≡ wholeOf (instructionAt q k) (scalarAt q k) r
   unfolding wholeOf
   whole-steps few r e =
       sym (settles (stepIf q (isStep q vlr) k) (rising (stepIf q (isStep q vlr) k) count r) r count 64 most
@@ -137,7 +137,7 @@ module _ (q : Queue) (vlr : ℕ) (k : ℕ) (h : k < size q) where
 
 -- `keeps`: no step writes VLR
 module _ (q : Queue) (vlr : ℕ) (few : vlr ≤ 64) (r : Run)
-    (keeps : (l : List ℕ) → ((x : ℕ) → Mem x l → T (isStep q vlr x)) → run (act q) l r .progress .control .vlr ≡ vlr)
+    (keeps : (l : List ℕ) → ((x : ℕ) → Mem x l → T (isStep q vlr x)) → run (act q) l r .control .vlr ≡ vlr)
   where
     positions-straight : (m : ℕ) → m ≤ size q → run (act q) (passing (isStep q vlr) 0 (m * 64)) r ≡ straight q m r
     unfolding run passing straight

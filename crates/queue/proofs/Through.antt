@@ -28,7 +28,7 @@ use Rattle.queue.specs.CallsWorking.{Runs, decodedAt, actBy, throughBy}
 
 -- ---- nothing in a queue writes VLR
 abbrev pub vlrOf : Run → ℕ
-vlrOf r = r .progress .control .vlr
+vlrOf r = r .control .vlr
 
 pick-vlr : (t : Bool) (a b r : Run) → vlrOf a ≡ vlrOf r → vlrOf b ≡ vlrOf r → vlrOf (pick t a b) ≡ vlrOf r
 pick-vlr true a b r e f = e
@@ -45,7 +45,7 @@ worked-vlr ins scalar i r = written-vlr ins i (received ins scalar i r .value) r
 step-vlr : (ins : Instruction) (scalar i : ℕ) (r : Run) → vlrOf (stepOf ins scalar i r) ≡ vlrOf r
 unfolding stepOf elementStep iotaStep
 step-vlr ins scalar i r =
-    pick-vlr (inOneStep ins) _ _ r refl (pick-vlr (operated ins (r .progress .control) i) (worked ins scalar i r) r r (worked-vlr ins scalar i r) refl)
+    pick-vlr (inOneStep ins) _ _ r refl (pick-vlr (operated ins (r .control) i) (worked ins scalar i r) r r (worked-vlr ins scalar i r) refl)
 
 steps-vlr : (n : ℕ) (ins : Instruction) (scalar : ℕ) (r : Run) → vlrOf (stepsBelow n ins scalar r) ≡ vlrOf r
 unfolding stepsBelow

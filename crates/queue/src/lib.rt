@@ -9,6 +9,7 @@ use state::answer::Ended;
 use touch;
 ghost use mathlib.Core.Path.{_≡_};
 ghost use Rattle.state.specs.Answer.{numberOf, besideOf};
+ghost use Rattle.state.specs.Marks.{marked};
 ghost use Rattle.state.specs.Outcome.{outcome};
 ghost use Rattle.state.specs.State.{state};
 ghost use Rattle.touch.specs.Parts.{queue};
@@ -21,12 +22,13 @@ mod runs;
 // A queue, straight through: each instruction is done whole on what the last one left.
 pub fn run(
     elements: &mut [u64; 1024],
+    marks: &mut [u64; 16],
     control: Control,
     opcodes: &[u8],
     cntrls: &[u16],
     scalars: &[u64],
 ) -> Ended
-    ensures { λ r. ⌜ outcome (r .answer) (state (now (elements .exit)) (r .control)) ≡ queueRun (queue (now (opcodes .entry)) (now (cntrls .entry)) (now (scalars .entry))) (state (now (elements .entry)) control) ⌝ }
+    ensures { λ r. ⌜ outcome (r .answer) (marked (state (now (elements .exit)) (r .control)) (now (marks .exit))) ≡ queueRun (queue (now (opcodes .entry)) (now (cntrls .entry)) (now (scalars .entry))) (marked (state (now (elements .entry)) control) (now (marks .entry))) ⌝ }
 {
     let accepted = acceptance::accept(control, opcodes, cntrls, scalars);
     let given = accepted.answer;
@@ -34,26 +36,27 @@ pub fn run(
         return answer::refused(given, control);
     }
     let program = accepted.program;
-    let progress = runs::straight(elements, run::begin(control), program, scalars);
+    let progress = runs::straight(elements, marks, run::begin(control), program, scalars);
     Ended {
         answer: Answer::Done(0),
         control: run::end(progress),
     }
 }
 
-// A queue by a list of its steps: the entries of a permitted list are done one after the other, which ends in the state of the straight
-// run; any other list is refused with 9 and its first bad position, or its length if steps are missing.
+// A queue by a list of its steps: the entries of a permitted list are done one after the other, which ends in the state and the marks of
+// the straight run; any other list is refused with 9 and its first bad position, or its length if steps are missing.
 pub fn run_order(
     elements: &mut [u64; 1024],
+    marks: &mut [u64; 16],
     control: Control,
     opcodes: &[u8],
     cntrls: &[u16],
     scalars: &[u64],
     list: &[u64],
 ) -> Ended
-    ensures straight { λ r. ⌜ outcome (r .answer) (state (now (elements .exit)) (r .control)) ≡ orderedRun (queue (now (opcodes .entry)) (now (cntrls .entry)) (now (scalars .entry))) (now (list .entry)) (state (now (elements .entry)) control) ⌝ }
-    ensures walked { λ r. ⌜ outcome (r .answer) (state (now (elements .exit)) (r .control)) ≡ walkedRun (queue (now (opcodes .entry)) (now (cntrls .entry)) (now (scalars .entry))) (now (list .entry)) (state (now (elements .entry)) control) ⌝ }
-    ensures demand { λ r. ⌜ AcceptedClaim (queue (now (opcodes .entry)) (now (cntrls .entry)) (now (scalars .entry))) (now (list .entry)) (state (now (elements .entry)) control) (numberOf (r .answer)) (besideOf (r .answer)) (state (now (elements .exit)) (r .control)) ⌝ }
+    ensures straight { λ r. ⌜ outcome (r .answer) (marked (state (now (elements .exit)) (r .control)) (now (marks .exit))) ≡ orderedRun (queue (now (opcodes .entry)) (now (cntrls .entry)) (now (scalars .entry))) (now (list .entry)) (marked (state (now (elements .entry)) control) (now (marks .entry))) ⌝ }
+    ensures walked { λ r. ⌜ outcome (r .answer) (marked (state (now (elements .exit)) (r .control)) (now (marks .exit))) ≡ walkedRun (queue (now (opcodes .entry)) (now (cntrls .entry)) (now (scalars .entry))) (now (list .entry)) (marked (state (now (elements .entry)) control) (now (marks .entry))) ⌝ }
+    ensures demand { λ r. ⌜ AcceptedClaim (queue (now (opcodes .entry)) (now (cntrls .entry)) (now (scalars .entry))) (now (list .entry)) (marked (state (now (elements .entry)) control) (now (marks .entry))) (numberOf (r .answer)) (besideOf (r .answer)) (marked (state (now (elements .exit)) (r .control)) (now (marks .exit))) ⌝ }
 {
     let accepted = acceptance::accept(control, opcodes, cntrls, scalars);
     let given = accepted.answer;
@@ -73,7 +76,7 @@ pub fn run_order(
     match order::check(opcodes.len(), control.vlr, writers[17], &bound, list) {
         Verdict::Permitted => {
             let program = accepted.program;
-            let progress = runs::walk(elements, run::begin(control), program, scalars, list);
+            let progress = runs::walk(elements, marks, run::begin(control), program, scalars, list);
             Ended {
                 answer: Answer::Done(0),
                 control: run::end(progress),

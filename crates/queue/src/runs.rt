@@ -6,7 +6,7 @@ use state::Element;
 ghost use mathlib.Core.Path.{_≡_};
 ghost use Prim.Native.Nat.{ℕ, _≤_, _<_};
 ghost use lib.ListN.{length, getD};
-ghost use Rattle.machine.specs.Run.{run as runOf};
+ghost use Rattle.machine.specs.Working.{underWay};
 ghost use Rattle.order.specs.Order.{run};
 ghost use Rattle.order.specs.Steps.{position};
 ghost use Rattle.queue.specs.CallsWorking.{Runs, decodedAt, actBy, throughBy};
@@ -14,19 +14,26 @@ ghost use Rattle.queue.specs.CallsWorking.{Runs, decodedAt, actBy, throu
 // Each instruction in queue order, done whole on what the last one left.
 pub fn straight(
     elements: &mut [u64; 1024],
+    marks: &mut [u64; 16],
     begun: Progress,
     program: [Instruction; 16],
     scalars: &[u64],
 ) -> Progress
     requires { ⌜ (begun .control .vlr ≤ 64) × (length (now scalars) ≤ 16) ⌝ }
     requires { ⌜ ((k : ℕ) → k < length (now scalars) → Runs (decodedAt program k)) ⌝ }
-    ensures { λ r. ⌜ runOf (now (elements .exit)) r ≡ throughBy program (now (scalars .entry)) (length (now (scalars .entry))) (runOf (now (elements .entry)) begun) ⌝ }
+    ensures { λ r. ⌜ underWay (now (elements .exit)) (now (marks .exit)) r ≡ throughBy program (now (scalars .entry)) (length (now (scalars .entry))) (underWay (now (elements .entry)) (now (marks .entry)) begun) ⌝ }
 {
     let mut progress = begun;
     let mut k: usize = 0;
     while k < scalars.len() {
         let instruction = program[k];
-        progress = instruction::whole(&mut *elements, progress, instruction, scalars[k]);
+        progress = instruction::whole(
+            &mut *elements,
+            &mut *marks,
+            progress,
+            instruction,
+            scalars[k],
+        );
         k += 1;
     }
     progress
@@ -35,6 +42,7 @@ pub fn straight(
 // One entry of a list: its step.
 fn enter(
     elements: &mut [u64; 1024],
+    marks: &mut [u64; 16],
     begun: Progress,
     program: [Instruction; 16],
     scalars: &[u64],
@@ -42,12 +50,13 @@ fn enter(
 ) -> Progress
     requires { ⌜ (begun .control .vlr ≤ 64) × (length (now scalars) ≤ 16) × (position x < length (now scalars)) ⌝ }
     requires { ⌜ ((k : ℕ) → k < length (now scalars) → Runs (decodedAt program k)) ⌝ }
-    ensures { λ r. ⌜ runOf (now (elements .exit)) r ≡ actBy program (now (scalars .entry)) x (runOf (now (elements .entry)) begun) ⌝ }
+    ensures { λ r. ⌜ underWay (now (elements .exit)) (now (marks .exit)) r ≡ actBy program (now (scalars .entry)) x (underWay (now (elements .entry)) (now (marks .entry)) begun) ⌝ }
 {
     let p = (x / 64) as usize;
     let instruction = program[p];
     instruction::step(
         elements,
+        marks,
         begun,
         instruction,
         scalars[p],
@@ -58,6 +67,7 @@ fn enter(
 // The steps of a permitted list, one entry at a time: each is done on what the last one left.
 pub fn walk(
     elements: &mut [u64; 1024],
+    marks: &mut [u64; 16],
     begun: Progress,
     program: [Instruction; 16],
     scalars: &[u64],
@@ -66,12 +76,19 @@ pub fn walk(
     requires { ⌜ (begun .control .vlr ≤ 64) × (length (now scalars) ≤ 16) ⌝ }
     requires { ⌜ ((k : ℕ) → k < length (now scalars) → Runs (decodedAt program k)) ⌝ }
     requires { ⌜ ((i : ℕ) → i < length (now list) → position (getD (now list) i 0) < length (now scalars)) ⌝ }
-    ensures { λ r. ⌜ runOf (now (elements .exit)) r ≡ run (actBy program (now (scalars .entry))) (now (list .entry)) (runOf (now (elements .entry)) begun) ⌝ }
+    ensures { λ r. ⌜ underWay (now (elements .exit)) (now (marks .exit)) r ≡ run (actBy program (now (scalars .entry))) (now (list .entry)) (underWay (now (elements .entry)) (now (marks .entry)) begun) ⌝ }
 {
     let mut progress = begun;
     let mut i: usize = 0;
     while i < list.len() {
-        progress = enter(&mut *elements, progress, program, scalars, list[i]);
+        progress = enter(
+            &mut *elements,
+            &mut *marks,
+            progress,
+            program,
+            scalars,
+            list[i],
+        );
         i += 1;
     }
     progress

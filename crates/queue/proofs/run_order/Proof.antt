@@ -8,6 +8,7 @@ use borrow.Author.Tests.{not-true, not-false}
 use lib.ListN.{length}
 use native.Mathlib.Omega.{arith}
 use Rattle.state.specs.Answer.{isDone}
+use Rattle.state.specs.Marks.{marked}
 use Rattle.state.specs.State.{state}
 use Rattle.touch.specs.Parts.{queue}
 use Rattle.queue.proofs.Preparing.{Prepared, prepared-none, prepared-more}
@@ -17,11 +18,11 @@ use Rattle.queue.proofs.run_order.Statement.{statement}
 use Rattle.queue.proofs.run_order.Tie as tie
 
 abbrev Inv-loop : tie.InvT-loop
-Inv-loop elements control opcodes cntrls scalars list accepted bound₀ readers₀ writers₀ k₀ bound readers writers k =
+Inv-loop elements marks control opcodes cntrls scalars list accepted bound₀ readers₀ writers₀ k₀ bound readers writers k =
     Prepared (queue opcodes cntrls scalars) bound readers writers k
 
 abbrev μ-loop : tie.MeasureT-loop
-μ-loop elements control opcodes cntrls scalars list accepted bound₀ readers₀ writers₀ k₀ bound readers writers k =
+μ-loop elements marks control opcodes cntrls scalars list accepted bound₀ readers₀ writers₀ k₀ bound readers writers k =
     length opcodes - k
 
 -- the places of the code
@@ -62,20 +63,20 @@ fine c = sym (c .before .is-done .ensures) ∙ not-false _ (c .if1 .left)
 returns : tie.Need-returns Inv-loop μ-loop
 returns c =
     let t : tie.Then1 Inv-loop μ-loop = search needs in let d : AfterAccept = search needs in let s : Start = search needs in let z = s .args in
-    three-promises _ (z .list .now) (state (z .elements .now) (z .control)) _
-    (listed-refused _ (z .elements .now) _ _ _ (d .accept .ensures) (sym (t .before .is-done .ensures) ∙ not-true _ (t .if1 .taken)) (z .list .now)
+    three-promises _ (z .list .now) (marked (state (z .elements .now) (z .control)) (z .marks .now)) _
+    (listed-refused _ (z .elements .now) (z .marks .now) _ _ _ (d .accept .ensures) (sym (t .before .is-done .ensures) ∙ not-true _ (t .if1 .taken)) (z .list .now)
     (c .refused .result) (c .refused .ensures))
 
 loop-holds : tie.Need-loop-holds Inv-loop μ-loop
-loop-holds c = prepared-none _ (listed-few _ (entry c .args .elements .now) _ _ _ (accepted c .accept .ensures) (fine c))
+loop-holds c = prepared-none _ (listed-few _ (entry c .args .elements .now) (entry c .args .marks .now) _ _ _ (accepted c .accept .ensures) (fine c))
 
 bind-requires : tie.Need-bind-requires Inv-loop μ-loop
 bind-requires c κs =
     let turn : InLoop = search needs in let at : AtLoop = search needs in let e : QueueAccepted = search needs in
-    let l = entry e .args .elements .now in let a = accepted e .accept .ensures in (
-      listed-below _ l _ _ _ a (fine e) (at .loop .k) (turn .loop-test .taken),
+    let l = entry e .args .elements .now in let m = entry e .args .marks .now in let a = accepted e .accept .ensures in (
+      listed-below _ l m _ _ _ a (fine e) (at .loop .k) (turn .loop-test .taken),
       omega arith,
-      listed-register _ l _ _ _ a (fine e) (at .loop .k) (turn .loop-test .taken),
+      listed-register _ l m _ _ _ a (fine e) (at .loop .k) (turn .loop-test .taken),
     )
 
 loop-again : tie.Need-loop-again Inv-loop μ-loop
@@ -88,7 +89,7 @@ loop-again c =
 check-requires : tie.Need-check-requires Inv-loop μ-loop
 check-requires c κs =
     let at : AtLoop = search needs in let e : QueueAccepted = search needs in
-    check-meets _ (entry e .args .elements .now) _ _ _ (accepted e .accept .ensures) (fine e) _ _ _ _ (at .loop .inv) (c .before .loop-test .left)
+    check-meets _ (entry e .args .elements .now) (entry e .args .marks .now) _ _ _ (accepted e .accept .ensures) (fine e) _ _ _ _ (at .loop .inv) (c .before .loop-test .left)
 
 enum-told : tie.Need-enum-told Inv-loop μ-loop
 enum-told c = search needs
@@ -97,23 +98,23 @@ walk-requires : tie.Need-walk-requires Inv-loop μ-loop
 walk-requires c κs =
     let told : Told = search needs in let v : Checked = search needs in let out : AllBound = search needs in
     let at : AtLoop = search needs in let e : QueueAccepted = search needs in let z = entry e .args in
-    list-meets _ (z .elements .now) _ _ _ (accepted e .accept .ensures) (fine e) _ _ _ _ (at .loop .inv) (out .loop-test .left)
+    list-meets _ (z .elements .now) (z .marks .now) _ _ _ (accepted e .accept .ensures) (fine e) _ _ _ _ (at .loop .inv) (out .loop-test .left)
     (z .list .now) _ (v .check .ensures) (told .enum-told .given .1) _ (c .begin .ensures)
 
 returns-2 : tie.Need-returns-2 Inv-loop μ-loop
 returns-2 c =
     let b : tie.After-begin Inv-loop μ-loop = search needs in let told : Told = search needs in let v : Checked = search needs in
     let out : AllBound = search needs in let at : AtLoop = search needs in let e : QueueAccepted = search needs in let z = entry e .args in
-    three-promises _ (z .list .now) (state (z .elements .now) (z .control)) _
-    (listed-done _ (z .elements .now) _ _ _ (accepted e .accept .ensures) (fine e) _ _ _ _ (at .loop .inv) (out .loop-test .left)
-    (z .list .now) _ (v .check .ensures) (told .enum-told .given .1) _ (b .begin .ensures) _ _ _ (c .end .ensures) (c .before .walk .ensures))
+    three-promises _ (z .list .now) (marked (state (z .elements .now) (z .control)) (z .marks .now)) _
+    (listed-done _ (z .elements .now) (z .marks .now) _ _ _ (accepted e .accept .ensures) (fine e) _ _ _ _ (at .loop .inv) (out .loop-test .left)
+    (z .list .now) _ (v .check .ensures) (told .enum-told .given .1) _ (b .begin .ensures) _ _ _ _ (c .end .ensures) (c .before .walk .ensures))
 
 returns-3 : tie.Need-returns-3 Inv-loop μ-loop
 returns-3 c =
     let p : tie.After-place Inv-loop μ-loop = search needs in let v : Checked = search needs in let out : AllBound = search needs in
     let at : AtLoop = search needs in let e : QueueAccepted = search needs in let z = entry e .args in
-    three-promises _ (z .list .now) (state (z .elements .now) (z .control)) _
-    (listed-stopped _ (z .elements .now) _ _ _ (accepted e .accept .ensures) (fine e) _ _ _ _ (at .loop .inv) (out .loop-test .left)
+    three-promises _ (z .list .now) (marked (state (z .elements .now) (z .control)) (z .marks .now)) _
+    (listed-stopped _ (z .elements .now) (z .marks .now) _ _ _ (accepted e .accept .ensures) (fine e) _ _ _ _ (at .loop .inv) (out .loop-test .left)
     (z .list .now) _ (v .check .ensures) _ (p .place .given .1) (c .refused2 .result) (c .refused2 .ensures))
 
 pub run-order-spec : {M : Type 1} → statement M

@@ -3,7 +3,7 @@ use mathlib.Core.Path.{_≡_}
 use Prim.Native.Nat.{_≤_, _-_}
 use borrow.Author.Needs.{needs}
 use lib.ListN.{length}
-use Rattle.machine.specs.Run.{run}
+use Rattle.machine.specs.Working.{underWay}
 use Rattle.queue.specs.CallsWorking.{throughBy}
 use Rattle.numbers.proofs.Rising.{starts, turns, ends}
 use Rattle.queue.proofs.Through.{whole-short}
@@ -11,11 +11,11 @@ use Rattle.queue.proofs.runs.straight.Statement.{statement}
 use Rattle.queue.proofs.runs.straight.Tie as tie
 
 abbrev Inv-loop : tie.InvT-loop
-Inv-loop elements₀ scalars program progress₀ k₀ elements progress k =
-    (k ≤ length scalars) × (progress .control .vlr ≤ 64) × (run elements progress ≡ throughBy program scalars k (run elements₀ progress₀))
+Inv-loop elements₀ marks₀ scalars program progress₀ k₀ elements marks progress k =
+    (k ≤ length scalars) × (progress .control .vlr ≤ 64) × (underWay elements marks progress ≡ throughBy program scalars k (underWay elements₀ marks₀ progress₀))
 
 abbrev μ-loop : tie.MeasureT-loop
-μ-loop elements₀ scalars program progress₀ k₀ elements progress k = length scalars - k
+μ-loop elements₀ marks₀ scalars program progress₀ k₀ elements marks progress k = length scalars - k
 
 loop-holds : tie.Need-loop-holds Inv-loop μ-loop
 loop-holds c = (search needs, search needs, starts _ _)

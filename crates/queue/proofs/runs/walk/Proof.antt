@@ -3,7 +3,7 @@ use mathlib.Core.Path.{_≡_, refl, ap, _∙_}
 use Prim.Native.Nat.{_-_}
 use borrow.Author.Needs.{needs}
 use lib.ListN.{length}
-use Rattle.machine.specs.Run.{run}
+use Rattle.machine.specs.Working.{underWay}
 use Rattle.queue.specs.CallsWorking.{actBy}
 use Rattle.order.proofs.RunLoop.{RunInv, run-start, run-one, run-end}
 use Rattle.queue.proofs.Through.{act-vlr, vlrOf}
@@ -11,11 +11,11 @@ use Rattle.queue.proofs.runs.walk.Statement.{statement}
 use Rattle.queue.proofs.runs.walk.Tie as tie
 
 abbrev Inv-loop : tie.InvT-loop
-Inv-loop elements₀ program scalars list progress₀ i₀ elements progress i =
-    (progress .control .vlr ≡ progress₀ .control .vlr) × RunInv (actBy program scalars) list (run elements₀ progress₀) (run elements progress) i
+Inv-loop elements₀ marks₀ program scalars list progress₀ i₀ elements marks progress i =
+    (progress .control .vlr ≡ progress₀ .control .vlr) × RunInv (actBy program scalars) list (underWay elements₀ marks₀ progress₀) (underWay elements marks progress) i
 
 abbrev μ-loop : tie.MeasureT-loop
-μ-loop elements₀ program scalars list progress₀ i₀ elements progress i = length list - i
+μ-loop elements₀ marks₀ program scalars list progress₀ i₀ elements marks progress i = length list - i
 
 loop-holds : tie.Need-loop-holds Inv-loop μ-loop
 loop-holds c = (refl, run-start _ _ _)
