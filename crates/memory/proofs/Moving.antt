@@ -2,7 +2,7 @@
 use mathlib.Core.Bool.{Bool, true, false}
 use mathlib.Core.Path.{_≡_, refl, ap, _∙_}
 use mathlib.Core.List.{List}
-use Prim.Native.Nat.{ℕ, _+_, _-_, _≤_, _<_}
+use Prim.Native.Nat.{ℕ, _+_, _-_, _^_, _≤_, _<_}
 use native.Mathlib.Omega.{arith}
 use lib.ListN.{take, drop, set}
 use borrow.Rule.Slice.PartMut.{putMid}
@@ -12,7 +12,9 @@ use Rattle.numbers.specs.Choice.{pick}
 use Rattle.numbers.specs.Rising.{rising}
 use Rattle.numbers.specs.Working.{ofOnes}
 use Rattle.numbers.specs.Bytes.{bytesOf, numberOf}
-use Rattle.state.specs.State.{State, placeOf}
+use Rattle.state.specs.Marks.{Marked, withMarks}
+use Rattle.state.specs.State.{placeOf}
+use Rattle.state.proofs.Marking.{marks-rise}
 use Rattle.state.specs.Elements.{at}
 use Rattle.numbers.proofs.Rising.{alike}
 use Rattle.memory.specs.declared.Test.{Test}
@@ -22,7 +24,7 @@ use Rattle.memory.specs.declared.Search.the-variants as search
 use Rattle.memory.specs.Works.{sizeOf}
 use Rattle.memory.specs.Window.{numberAt, putAt}
 use Rattle.memory.specs.Address.{saying, orElse, verdict, testStep, tested}
-use Rattle.memory.specs.Move.{received, movesBy, loadStep, storeStep, unlessBad, movedBy}
+use Rattle.memory.specs.Move.{received, movesBy, loadStep, markStep, storeStep, unlessBad, movedBy}
 use Rattle.memory.proofs.Windows.{put}
 use Rattle.memory.proofs.Testing.{all-fine}
 
@@ -72,8 +74,13 @@ module _ (quadword : Bool) (vc which : ℕ) (place : ℕ → ℕ) (n : ℕ) (l w
   unfolding ofOnes storeAt storeStep
   stores-ones = refl
 
+-- and marked one by one they are marked all at once
+pub marks-ones : (vc which n : ℕ) (m : List ℕ) → which < 2 ^ n → rising (markStep vc (bit which)) n m ≡ withMarks m vc which
+unfolding ofOnes markStep
+marks-ones vc which n m small = marks-rise m vc which n small
+
 -- of the elements only those that are chosen are asked where they stand in the window
-module _ (quadword : Bool) (vc : ℕ) (chosen : ℕ → Bool) (place place′ : ℕ → ℕ) (n : ℕ) (l w : List ℕ)
+module _ (quadword : Bool) (vc : ℕ) (chosen : ℕ → Bool) (place place′ : ℕ → ℕ) (n : ℕ) (l m w : List ℕ)
     (same : (i : ℕ) → i < n → chosen i ≡ true → place i ≡ place′ i) where
   steps : (f : ℕ → ℕ → List ℕ → List ℕ) (x : List ℕ)
       → rising (λ i x. pick (chosen i) (f i (place i) x) x) n x ≡ rising (λ i x. pick (chosen i) (f i (place′ i) x) x) n x
@@ -83,29 +90,29 @@ module _ (quadword : Bool) (vc : ℕ) (chosen : ℕ → Bool) (place place′ : 
       at i x true e = ap (λ (k : ℕ). f i k x) (e refl)
       at i x false e = refl
 
-  pub moves-agree : (store : Bool) → movesBy store quadword vc chosen place n l w ≡ movesBy store quadword vc chosen place′ n l w
+  pub moves-agree : (store : Bool) → movesBy store quadword vc chosen place n l m w ≡ movesBy store quadword vc chosen place′ n l m w
   unfolding storeStep loadStep
-  moves-agree true = ap (λ (x : List ℕ). (l, x)) (steps (λ (i k : ℕ) (x : List ℕ). putAt (sizeOf quadword) x k (at l vc i)) w)
+  moves-agree true = ap (λ (x : List ℕ). (l, m, x)) (steps (λ (i k : ℕ) (x : List ℕ). putAt (sizeOf quadword) x k (at l vc i)) w)
   moves-agree false =
-      ap (λ (x : List ℕ). (x, w))
+      ap (λ (x : List ℕ). (x, rising (markStep vc chosen) n m, w))
       (steps (λ (i k : ℕ) (x : List ℕ). set x (placeOf vc i) (received quadword (at x vc i) (numberAt (sizeOf quadword) w k))) l)
 
 -- and only those that are fine
-module _ (store quadword : Bool) (vc : ℕ) (chosen : ℕ → Bool) (tests tests′ : ℕ → Test) (place place′ : ℕ → ℕ) (n : ℕ) (s : State) (w : List ℕ)
+module _ (store quadword : Bool) (vc : ℕ) (chosen : ℕ → Bool) (tests tests′ : ℕ → Test) (place place′ : ℕ → ℕ) (n : ℕ) (b : Marked) (w : List ℕ)
     (same : (i : ℕ) → tests i ≡ tests′ i) (there : (i : ℕ) → tests i ≡ test.Fine → place i ≡ place′ i) where
   tests-agree : tested chosen tests n ≡ tested chosen tests′ n
   unfolding testStep
   tests-agree = alike _ _ n search.Fine (λ i a _. ap (λ (t : Test). orElse a (saying i (verdict (chosen i) t))) (same i))
 
-  pub moved-agree : movedBy store quadword vc chosen tests place n s w ≡ movedBy store quadword vc chosen tests′ place′ n s w
+  pub moved-agree : movedBy store quadword vc chosen tests place n b w ≡ movedBy store quadword vc chosen tests′ place′ n b w
   moved-agree =
       go (tested chosen tests n) refl
-      ∙ ap (λ (a : Search). unlessBad a s w (movesBy store quadword vc chosen place′ n (s .elements) w)) tests-agree
+      ∙ ap (λ (a : Search). unlessBad a b w (movesBy store quadword vc chosen place′ n (b .state .elements) (b .marks) w)) tests-agree
     where
       go : (a : Search) → tested chosen tests n ≡ a
-          → unlessBad a s w (movesBy store quadword vc chosen place n (s .elements) w)
-          ≡ unlessBad a s w (movesBy store quadword vc chosen place′ n (s .elements) w)
+          → unlessBad a b w (movesBy store quadword vc chosen place n (b .state .elements) (b .marks) w)
+          ≡ unlessBad a b w (movesBy store quadword vc chosen place′ n (b .state .elements) (b .marks) w)
       go search.Fine e =
-          ap (unlessBad search.Fine s w)
-          (moves-agree quadword vc chosen place place′ n (s .elements) w (λ i h c. there i (all-fine chosen tests n i e h c)) store)
+          ap (unlessBad search.Fine b w)
+          (moves-agree quadword vc chosen place place′ n (b .state .elements) (b .marks) w (λ i h c. there i (all-fine chosen tests n i e h c)) store)
       go (search.Bad f k) e = refl

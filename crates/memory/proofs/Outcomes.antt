@@ -1,4 +1,4 @@
--- A memory instruction that is refused leaves the state and the window as they were. It is done exactly where the window is allowed and every operated
+-- A memory instruction that is refused leaves the state, the marks and the window as they were. It is done exactly where the window is allowed and every operated
 -- element is aligned and lies in it; then it has moved them. Assumes nothing.
 use mathlib.Core.Bool.{Bool, true, false, _&&_}
 use mathlib.Core.Path.{_≡_, refl, ap, ap₂, _∙_}
@@ -15,7 +15,8 @@ use Rattle.state.specs.declared.answer.Answer.the-variants.{WindowRefused}
 use Rattle.state.specs.declared.answer.Answer.the-variants as answer
 use Rattle.state.specs.Answer.{isDone}
 use Rattle.state.specs.Outcome.{afterRefusal, refusedWindow}
-use Rattle.state.specs.State.{State, state}
+use Rattle.state.specs.Marks.{Marked, marked}
+use Rattle.state.specs.State.{state}
 use Rattle.opcodes.specs.declared.Instruction.{Instruction}
 use Rattle.opcodes.specs.Masking.{operated}
 use Rattle.memory.specs.declared.Fault.the-variants as fault
@@ -67,12 +68,12 @@ none-bad chosen tests (suc n) all =
     by true c e = ap₂ (λ (a : Search) (t : Test). orElse a (saying n t)) e (all n (omega arith) c)
     by false c e = ap (λ (a : Search). orElse a search.Fine) e
 
-module _ (s : State) (ins : Instruction) (base stride : ℕ) (w : List ℕ) (origin : ℕ) where
+module _ (b : Marked) (ins : Instruction) (base stride : ℕ) (w : List ℕ) (origin : ℕ) where
   abbrev size : ℕ
   size = sizeOf (isQuadword (ins .work))
 
   abbrev address : ℕ → ℕ
-  address i = addressOf ins base stride (s .elements) i
+  address i = addressOf ins base stride (b .state .elements) i
 
   abbrev place : ℕ → ℕ
   place i = address i - origin
@@ -80,59 +81,61 @@ module _ (s : State) (ins : Instruction) (base stride : ℕ) (w : List ℕ) (ori
   abbrev tests : ℕ → Test
   tests i = testOf size origin (origin + length w) (address i)
 
-  abbrev moves : List ℕ × List ℕ
-  moves = movesBy (isStore (ins .work)) (isQuadword (ins .work)) (ins .vc .0) (operated ins (s .control)) place (s .control .vlr) (s .elements) w
+  abbrev moves : List ℕ × List ℕ × List ℕ
+  moves =
+      movesBy (isStore (ins .work)) (isQuadword (ins .work)) (ins .vc .0) (operated ins (b .state .control)) place (b .state .control .vlr)
+      (b .state .elements) (b .marks) w
 
   abbrev verdict : Search
-  verdict = tested (operated ins (s .control)) tests (s .control .vlr)
+  verdict = tested (operated ins (b .state .control)) tests (b .state .control .vlr)
 
   -- ---- refused
-  kept-unless : (a : Search) (m : List ℕ × List ℕ) → isDone (unlessBad a s w m .answer) ≡ false → unlessBad a s w m .left ≡ (s, w)
+  kept-unless : (a : Search) (m : List ℕ × List ℕ × List ℕ) → isDone (unlessBad a b w m .answer) ≡ false → unlessBad a b w m .left ≡ (b, w)
   unfolding afterRefusal
   kept-unless search.Fine m e = let z : _≡_ {A = ℕ} 0 1 = cc in absurd (omega arith)
   kept-unless (search.Bad f element) m e = refl
 
-  pub moved-kept : isDone (movedOf s ins base stride w origin .answer) ≡ false → movedOf s ins base stride w origin .left ≡ (s, w)
+  pub moved-kept : isDone (movedOf b ins base stride w origin .answer) ≡ false → movedOf b ins base stride w origin .left ≡ (b, w)
   unfolding movedOf afterRefusal
   moved-kept = at (allowed (length w) origin)
     where
-      at : (t : Bool) → isDone (pick t (unlessBad verdict s w moves) (refusedWindow WindowRefused s w) .answer) ≡ false
-          → pick t (unlessBad verdict s w moves) (refusedWindow WindowRefused s w) .left ≡ (s, w)
+      at : (t : Bool) → isDone (pick t (unlessBad verdict b w moves) (refusedWindow WindowRefused b w) .answer) ≡ false
+          → pick t (unlessBad verdict b w moves) (refusedWindow WindowRefused b w) .left ≡ (b, w)
       at true e = kept-unless verdict moves e
       at false e = refl
 
   -- ---- done
   pub record Done : Type 0 where
     pub window : allowed (length w) origin ≡ true
-    pub fit : (i : ℕ) → i < s .control .vlr → operated ins (s .control) i ≡ true → Fits size origin (origin + length w) (address i)
-    pub moved : movedOf s ins base stride w origin .left ≡ (state (moves .0) (s .control), moves .1)
+    pub fit : (i : ℕ) → i < b .state .control .vlr → operated ins (b .state .control) i ≡ true → Fits size origin (origin + length w) (address i)
+    pub moved : movedOf b ins base stride w origin .left ≡ (marked (state (moves .0) (b .state .control)) (moves .1), moves .2)
 
-  fine-unless : (a : Search) (m : List ℕ × List ℕ) → isDone (unlessBad a s w m .answer) ≡ true → a ≡ search.Fine
+  fine-unless : (a : Search) (m : List ℕ × List ℕ × List ℕ) → isDone (unlessBad a b w m .answer) ≡ true → a ≡ search.Fine
   fine-unless search.Fine m e = refl
   fine-unless (search.Bad fault.Misaligned k) m e = let z : _≡_ {A = ℕ} 0 1 = cc in absurd (omega arith)
   fine-unless (search.Bad fault.Outside k) m e = let z : _≡_ {A = ℕ} 0 1 = cc in absurd (omega arith)
 
-  pub moved-done : isDone (movedOf s ins base stride w origin .answer) ≡ true → Done
+  pub moved-done : isDone (movedOf b ins base stride w origin .answer) ≡ true → Done
   unfolding movedOf
   moved-done d = at (allowed (length w) origin) refl d
     where
-      at : (t : Bool) → allowed (length w) origin ≡ t → isDone (pick t (unlessBad verdict s w moves) (refusedWindow WindowRefused s w) .answer) ≡ true → Done
+      at : (t : Bool) → allowed (length w) origin ≡ t → isDone (pick t (unlessBad verdict b w moves) (refusedWindow WindowRefused b w) .answer) ≡ true → Done
       at true e d =
           let fine : verdict ≡ search.Fine = fine-unless verdict moves d in
           record {
             window = e;
-            fit = λ i h c. fits size origin (origin + length w) (address i) (all-fine (operated ins (s .control)) tests (s .control .vlr) i fine h c);
-            moved = ap (λ (t : Bool). pick t (unlessBad verdict s w moves) (refusedWindow WindowRefused s w) .left) e
-                ∙ ap (λ (a : Search). unlessBad a s w moves .left) fine;
+            fit = λ i h c. fits size origin (origin + length w) (address i) (all-fine (operated ins (b .state .control)) tests (b .state .control .vlr) i fine h c);
+            moved = ap (λ (t : Bool). pick t (unlessBad verdict b w moves) (refusedWindow WindowRefused b w) .left) e
+                ∙ ap (λ (a : Search). unlessBad a b w moves .left) fine;
           }
       at false e d = let z : _≡_ {A = ℕ} 0 1 = cc in absurd (omega arith)
 
   -- and so it is done
   pub done-if : allowed (length w) origin ≡ true
-      → ((i : ℕ) → i < s .control .vlr → operated ins (s .control) i ≡ true → Fits size origin (origin + length w) (address i))
-      → movedOf s ins base stride w origin .answer ≡ answer.Done 0
+      → ((i : ℕ) → i < b .state .control .vlr → operated ins (b .state .control) i ≡ true → Fits size origin (origin + length w) (address i))
+      → movedOf b ins base stride w origin .answer ≡ answer.Done 0
   unfolding movedOf
   done-if window fit =
-      ap (λ (t : Bool). pick t (unlessBad verdict s w moves) (refusedWindow WindowRefused s w) .answer) window
-      ∙ ap (λ (a : Search). unlessBad a s w moves .answer)
-      (none-bad (operated ins (s .control)) tests (s .control .vlr) (λ i h c. fine size origin (origin + length w) (address i) (fit i h c)))
+      ap (λ (t : Bool). pick t (unlessBad verdict b w moves) (refusedWindow WindowRefused b w) .answer) window
+      ∙ ap (λ (a : Search). unlessBad a b w moves .answer)
+      (none-bad (operated ins (b .state .control)) tests (b .state .control .vlr) (λ i h c. fine size origin (origin + length w) (address i) (fit i h c)))

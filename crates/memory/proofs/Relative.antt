@@ -10,7 +10,7 @@ use lib.ListN.{length}
 use borrow.Author.Tests.{le-leb, lt-leb}
 use Rattle.numbers.specs.Halves.{low}
 use Rattle.state.specs.Elements.{at}
-use Rattle.state.specs.State.{State}
+use Rattle.state.specs.Marks.{Marked}
 use Rattle.memory.specs.declared.Test.the-variants as test
 use Rattle.memory.specs.Works.{sizeOf}
 use Rattle.memory.specs.Address.{addressBy, found, testOf}
@@ -69,11 +69,11 @@ module _ (origin bytes : ℕ) (straight : origin % 8 ≡ 0) (fits : origin + byt
   test-same = ap₂ found (ap (λ (k : ℕ). eqb k 0) (aligned-same quadword)) inside-same
 
 -- ---- and the whole
-pub relative : (store quadword : Bool) (origin vc : ℕ) (chosen : ℕ → Bool) (address place : ℕ → ℕ) (n : ℕ) (s : State) (w : List ℕ)
+pub relative : (store quadword : Bool) (origin vc : ℕ) (chosen : ℕ → Bool) (address place : ℕ → ℕ) (n : ℕ) (b : Marked) (w : List ℕ)
     → origin % 8 ≡ 0 → origin + length w ≤ 2 ^ 32 → ((i : ℕ) → From origin (address i) (place i))
-    → movedBy store quadword vc chosen (testsAt (sizeOf quadword) (length w) place) place n s w
-    ≡ movedBy store quadword vc chosen (λ (i : ℕ). testOf (sizeOf quadword) origin (origin + length w) (address i)) (λ (i : ℕ). address i - origin) n s w
-relative store quadword origin vc chosen address place n s w straight fits from =
-    moved-agree store quadword vc chosen _ _ place _ n s w
+    → movedBy store quadword vc chosen (testsAt (sizeOf quadword) (length w) place) place n b w
+    ≡ movedBy store quadword vc chosen (λ (i : ℕ). testOf (sizeOf quadword) origin (origin + length w) (address i)) (λ (i : ℕ). address i - origin) n b w
+relative store quadword origin vc chosen address place n b w straight fits from =
+    moved-agree store quadword vc chosen _ _ place _ n b w
     (λ i. test-same origin (length w) straight fits quadword (address i) (place i) (from i))
     (λ i. same-place origin (length w) straight fits quadword (address i) (place i) (from i))

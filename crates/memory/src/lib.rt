@@ -11,6 +11,7 @@ ghost use mathlib.Core.Path.{_≡_};
 ghost use Prim.Native.Nat.{_^_, _≤_, _<_};
 ghost use lib.ListN.{length};
 ghost use Rattle.numbers.specs.Bits.{bit};
+ghost use Rattle.state.specs.Marks.{marked};
 ghost use Rattle.state.specs.Outcome.{outcome};
 ghost use Rattle.state.specs.State.{state};
 ghost use Rattle.memory.specs.Works.{sizeOf};
@@ -63,6 +64,7 @@ fn bad_element(fault: Fault, element: u64) -> Answer
 // Tests the elements of a set of numbers below n, and moves them if all are fine.
 fn all_or_none(
     elements: &mut [u64; 1024],
+    marks: &mut [u64; 16],
     control: Control,
     window: &mut [u8],
     addressing: Addressing,
@@ -73,7 +75,7 @@ fn all_or_none(
     n: usize,
 ) -> Ended
     requires { ⌜ (addressing .vb .0 < 16) × (vc .0 < 16) × (n ≤ 64) × (which < 2 ^ n) × (length (now window) ≤ 2 ^ 32) ⌝ }
-    ensures { λ r. ⌜ outcome (r .answer) (state (now (elements .exit)) (r .control), now (window .exit)) ≡ movedBy store quadword (vc .0) (bit which) (testsAt (sizeOf quadword) (length (now (window .entry))) (addressIn addressing (now (elements .entry)))) (addressIn addressing (now (elements .entry))) 64 (state (now (elements .entry)) control) (now (window .entry)) ⌝ }
+    ensures { λ r. ⌜ outcome (r .answer) (marked (state (now (elements .exit)) (r .control)) (now (marks .exit)), now (window .exit)) ≡ movedBy store quadword (vc .0) (bit which) (testsAt (sizeOf quadword) (length (now (window .entry))) (addressIn addressing (now (elements .entry)))) (addressIn addressing (now (elements .entry))) 64 (marked (state (now (elements .entry)) control) (now (marks .entry))) (now (window .entry)) ⌝ }
 {
     let mut addresses = [0u32; 64];
     let found = tests::tested(
@@ -87,7 +89,16 @@ fn all_or_none(
     );
     match found {
         Search::Fine => {
-            moves::all(elements, window, &addresses, store, which, quadword, vc);
+            moves::all(
+                elements,
+                marks,
+                window,
+                &addresses,
+                store,
+                which,
+                quadword,
+                vc,
+            );
             Ended {
                 answer: Answer::Done(0),
                 control,
@@ -100,6 +111,7 @@ fn all_or_none(
 // Loads, stores, gathers or scatters. The window is tested first, then every operated element; only if all are fine is anything moved.
 pub fn transfer(
     elements: &mut [u64; 1024],
+    marks: &mut [u64; 16],
     control: Control,
     instruction: Instruction,
     base: u32,
@@ -108,7 +120,7 @@ pub fn transfer(
     origin: u64,
 ) -> Ended
     requires { ⌜ (instruction .vb .0 < 16) × (instruction .vc .0 < 16) × (control .vlr ≤ 64) ⌝ }
-    ensures { λ r. ⌜ outcome (r .answer) (state (now (elements .exit)) (r .control), now (window .exit)) ≡ movedOf (state (now (elements .entry)) control) instruction base stride (now (window .entry)) origin ⌝ }
+    ensures { λ r. ⌜ outcome (r .answer) (marked (state (now (elements .exit)) (r .control)) (now (marks .exit)), now (window .exit)) ≡ movedOf (marked (state (now (elements .entry)) control) (now (marks .entry))) instruction base stride (now (window .entry)) origin ⌝ }
 {
     if !window::allowed(window.len() as u64, origin) {
         return answer::refused(Answer::WindowRefused, control);
@@ -126,6 +138,7 @@ pub fn transfer(
     };
     all_or_none(
         elements,
+        marks,
         control,
         window,
         addressing,
