@@ -13,6 +13,7 @@ use state::answer::Ended;
 ghost use mathlib.Core.Path.{_≡_};
 ghost use mathlib.Core.Bool.{true};
 ghost use Prim.Native.Nat.{_≤_};
+ghost use Rattle.state.specs.Marks.{marked};
 ghost use Rattle.state.specs.Outcome.{outcome};
 ghost use Rattle.state.specs.State.{state as stateOf};
 ghost use Rattle.opcodes.specs.Working.{Below, inTable, isRegisterWork};
@@ -22,19 +23,21 @@ ghost use Rattle.execute.specs.Execute.{carriedOut, executedOf};
 // A register instruction by itself.
 fn register(
     elements: &mut [u64; 1024],
+    marks: &mut [u64; 16],
     control: Control,
     instruction: Instruction,
     scalar: u64,
 ) -> Control
     requires { ⌜ Below instruction × (isRegisterWork (instruction .work) ≡ true) × (control .vlr ≤ 64) ⌝ }
-    ensures { λ r. ⌜ stateOf (now (elements .exit)) r ≡ instructionDone instruction scalar (stateOf (now (elements .entry)) control) ⌝ }
+    ensures { λ r. ⌜ marked (stateOf (now (elements .exit)) r) (now (marks .exit)) ≡ instructionDone instruction scalar (marked (stateOf (now (elements .entry)) control) (now (marks .entry))) ⌝ }
 {
-    run::end(instruction::whole(elements, run::begin(control), instruction, scalar))
+    run::end(instruction::whole(elements, marks, run::begin(control), instruction, scalar))
 }
 
 // An instruction that passed the checks.
 fn carry_out(
     elements: &mut [u64; 1024],
+    marks: &mut [u64; 16],
     control: Control,
     instruction: Instruction,
     scalar: u64,
@@ -44,20 +47,30 @@ fn carry_out(
     origin: u64,
 ) -> Ended
     requires { ⌜ Below instruction × (inTable (instruction .work) ≡ true) × (control .vlr ≤ 64) ⌝ }
-    ensures { λ r. ⌜ outcome (r .answer) (stateOf (now (elements .exit)) (r .control), now (window .exit)) ≡ carriedOut instruction (stateOf (now (elements .entry)) control) scalar base stride (now (window .entry)) origin ⌝ }
+    ensures { λ r. ⌜ outcome (r .answer) (marked (stateOf (now (elements .exit)) (r .control)) (now (marks .exit)), now (window .exit)) ≡ carriedOut instruction (marked (stateOf (now (elements .entry)) control) (now (marks .entry))) scalar base stride (now (window .entry)) origin ⌝ }
 {
     if works::is_memory(instruction.work) {
-        return memory::transfer(elements, control, instruction, base, stride, window, origin);
+        return memory::transfer(
+            elements,
+            marks,
+            control,
+            instruction,
+            base,
+            stride,
+            window,
+            origin,
+        );
     }
     Ended {
         answer: Answer::Done(0),
-        control: register(elements, control, instruction, scalar),
+        control: register(elements, marks, control, instruction, scalar),
     }
 }
 
 // One instruction.
 pub fn execute(
     elements: &mut [u64; 1024],
+    marks: &mut [u64; 16],
     control: Control,
     opcode: u8,
     cntrl: u16,
@@ -67,7 +80,7 @@ pub fn execute(
     window: &mut [u8],
     origin: u64,
 ) -> Ended
-    ensures { λ r. ⌜ outcome (r .answer) (stateOf (now (elements .exit)) (r .control), now (window .exit)) ≡ executedOf (stateOf (now (elements .entry)) control) opcode cntrl scalar base stride (now (window .entry)) origin ⌝ }
+    ensures { λ r. ⌜ outcome (r .answer) (marked (stateOf (now (elements .exit)) (r .control)) (now (marks .exit)), now (window .exit)) ≡ executedOf (marked (stateOf (now (elements .entry)) control) (now (marks .entry))) opcode cntrl scalar base stride (now (window .entry)) origin ⌝ }
 {
     if !state::in_range(control) {
         return answer::refused(Answer::OutOfRange, control);
@@ -77,6 +90,7 @@ pub fn execute(
         Decoded::Refused(refusal) => answer::refused(refusal, control),
         Decoded::Accepted(instruction) => carry_out(
             elements,
+            marks,
             control,
             instruction,
             scalar,

@@ -1,4 +1,4 @@
--- The state as C hands it over: 1,024 numbers, element e of register r at r*64+e, and the control record as five numbers. (The control writes take the
+-- The state as C hands it over: 1,024 numbers, element e of register r at r*64+e, the control record as five numbers, and the marks as sixteen. (The control writes take the
 -- record itself: their promises are control/specs/Moves.antt's own.)
 -- Document 01, "Numbers given back": a call returns the number; what stands beside it goes to *beside.
 use mathlib.Core.Bool.{_&&_}
@@ -10,6 +10,7 @@ use Rattle.numbers.specs.Halves.{low}
 use Rattle.state.specs.declared.Control.{Control}
 use Rattle.state.specs.declared.answer.Answer.the-variants.{Done}
 use Rattle.state.specs.Answer.{numbers}
+use Rattle.state.specs.Marks.{Marked, marked, noMarks}
 use Rattle.state.specs.Outcome.{Outcome}
 use Rattle.state.specs.State.{State, state, inRange}
 use Rattle.state.specs.Elements.{at}
@@ -26,13 +27,21 @@ controlInto l c = set (set (set (set (set l 0 (c .vlr)) 1 (c .vmr)) 2 (c .vcr)) 
 abbrev pub stateOf : List ℕ → List ℕ → State
 stateOf elements control = state elements (controlOf control)
 
--- what a call that alters the state gives back, and the elements and the five numbers after it
-unfoldable pub left : List ℕ → Outcome State → (ℕ × ℕ) × List ℕ × List ℕ
-left control o = (numbers (o .answer), o .left .elements, controlInto control (o .left .control))
+abbrev pub markedOf : List ℕ → List ℕ → List ℕ → Marked
+markedOf elements control marks = marked (stateOf elements control) marks
+
+-- what a call that alters the state gives back, and the elements, the five numbers and the marks after it
+unfoldable pub left : List ℕ → Outcome Marked → (ℕ × ℕ) × List ℕ × List ℕ × List ℕ
+left control o = (numbers (o .answer), o .left .state .elements, controlInto control (o .left .state .control), o .left .marks)
 
 -- the same of one instruction, and the window after it
-unfoldable pub executed : List ℕ → Outcome (State × List ℕ) → (ℕ × ℕ) × List ℕ × List ℕ × List ℕ
-executed control o = (numbers (o .answer), o .left .0 .elements, controlInto control (o .left .0 .control), o .left .1)
+unfoldable pub executed : List ℕ → Outcome (Marked × List ℕ) → (ℕ × ℕ) × List ℕ × List ℕ × List ℕ × List ℕ
+executed control o =
+    (numbers (o .answer), o .left .0 .state .elements, controlInto control (o .left .0 .state .control), o .left .0 .marks, o .left .1)
+
+-- what clearing the marks gives back, and the marks after it. Document 02, "Which elements were written" (Q-3): "Clearing is a call of its own"
+abbrev pub cleared : (ℕ × ℕ) × List ℕ
+cleared = (numbers (Done 0), noMarks)
 
 -- what a reading gives back, and *kind_read and *bits after it: a refused one leaves them as they were
 unfoldable pub fieldRead : State → ℕ → ℕ → ℕ → ℕ → ℕ → (ℕ × ℕ) × ℕ × ℕ

@@ -10,9 +10,12 @@ use state::Element;
 use state::Register;
 use state::answer;
 use state::answer::Answer;
+use state::marks;
 ghost use mathlib.Core.Path.{_≡_};
 ghost use lib.ListN.{length};
-ghost use Rattle.state.specs.Answer.{numbers};
+ghost use Rattle.numbers.specs.Choice.{pick};
+ghost use Rattle.state.specs.Answer.{numbers, isDone};
+ghost use Rattle.state.specs.Marks.{allMarks};
 ghost use Rattle.state.specs.Outcome.{given};
 ghost use Rattle.control.specs.Moves.{vlrRead, vcrRead, vmrLowRead, vmrHighRead, vaerRead, vpsrRead, vlrWritten, vcrWritten, vmrLowWritten, vmrHighWritten, vpsrWritten};
 ghost use Rattle.execute.specs.Execute.{executedOf};
@@ -20,8 +23,8 @@ ghost use Rattle.touch.specs.Parts.{queue as queueOf};
 ghost use Rattle.queue.specs.Run.{queueRun, walkedRun, orderedRun};
 ghost use Rattle.queue.specs.Claim.{AcceptedClaim};
 ghost use Rattle.saved.specs.Save.{saving};
-ghost use Rattle.saved.specs.Load.{loading};
-ghost use Rattle.kujawian.specs.Face.{controlOf, stateOf, left, executed, fieldRead};
+ghost use Rattle.saved.specs.Load.{loadingMarked};
+ghost use Rattle.kujawian.specs.Face.{controlOf, stateOf, markedOf, left, executed, cleared, fieldRead};
 
 #[no_mangle]
 pub extern "C" fn kuj_read_vlr(control: &[u64; 5], beside: &mut u64) -> u32
@@ -126,6 +129,7 @@ pub extern "C" fn kuj_write_vpsr(control: &mut Control, value: u32, beside: &mut
 pub extern "C" fn kuj_execute(
     elements: &mut [u64; 1024],
     control: &mut [u64; 5],
+    marks: &mut [u64; 16],
     opcode: u8,
     cntrl: u16,
     scalar: u64,
@@ -135,10 +139,11 @@ pub extern "C" fn kuj_execute(
     origin: u64,
     beside: &mut u64,
 ) -> u32
-    ensures { λ r. ⌜ ((r, now (beside .exit)), now (elements .exit), now (control .exit), now (window .exit)) ≡ executed (now (control .entry)) (executedOf (stateOf (now (elements .entry)) (now (control .entry))) opcode cntrl scalar base stride (now (window .entry)) origin) ⌝ }
+    ensures { λ r. ⌜ ((r, now (beside .exit)), now (elements .exit), now (control .exit), now (marks .exit), now (window .exit)) ≡ executed (now (control .entry)) (executedOf (markedOf (now (elements .entry)) (now (control .entry)) (now (marks .entry))) opcode cntrl scalar base stride (now (window .entry)) origin) ⌝ }
 {
     let after = execute::execute(
         elements,
+        marks,
         record::of(control),
         opcode,
         cntrl,
@@ -158,14 +163,22 @@ pub extern "C" fn kuj_execute(
 pub extern "C" fn kuj_run(
     elements: &mut [u64; 1024],
     control: &mut [u64; 5],
+    marks: &mut [u64; 16],
     opcodes: &[u8],
     cntrls: &[u16],
     scalars: &[u64],
     beside: &mut u64,
 ) -> u32
-    ensures { λ r. ⌜ ((r, now (beside .exit)), now (elements .exit), now (control .exit)) ≡ left (now (control .entry)) (queueRun (queueOf (now (opcodes .entry)) (now (cntrls .entry)) (now (scalars .entry))) (stateOf (now (elements .entry)) (now (control .entry)))) ⌝ }
+    ensures { λ r. ⌜ ((r, now (beside .exit)), now (elements .exit), now (control .exit), now (marks .exit)) ≡ left (now (control .entry)) (queueRun (queueOf (now (opcodes .entry)) (now (cntrls .entry)) (now (scalars .entry))) (markedOf (now (elements .entry)) (now (control .entry)) (now (marks .entry)))) ⌝ }
 {
-    let after = queue::run(elements, record::of(control), opcodes, cntrls, scalars);
+    let after = queue::run(
+        elements,
+        marks,
+        record::of(control),
+        opcodes,
+        cntrls,
+        scalars,
+    );
     let given = after.answer;
     record::store(control, after.control);
     answers::give(given, beside)
@@ -176,18 +189,20 @@ pub extern "C" fn kuj_run(
 pub extern "C" fn kuj_run_order(
     elements: &mut [u64; 1024],
     control: &mut [u64; 5],
+    marks: &mut [u64; 16],
     opcodes: &[u8],
     cntrls: &[u16],
     scalars: &[u64],
     order: &[u64],
     beside: &mut u64,
 ) -> u32
-    ensures straight { λ r. ⌜ ((r, now (beside .exit)), now (elements .exit), now (control .exit)) ≡ left (now (control .entry)) (orderedRun (queueOf (now (opcodes .entry)) (now (cntrls .entry)) (now (scalars .entry))) (now (order .entry)) (stateOf (now (elements .entry)) (now (control .entry)))) ⌝ }
-    ensures walked { λ r. ⌜ ((r, now (beside .exit)), now (elements .exit), now (control .exit)) ≡ left (now (control .entry)) (walkedRun (queueOf (now (opcodes .entry)) (now (cntrls .entry)) (now (scalars .entry))) (now (order .entry)) (stateOf (now (elements .entry)) (now (control .entry)))) ⌝ }
-    ensures demand { λ r. ⌜ (length (now (control .entry)) ≡ 5 → AcceptedClaim (queueOf (now (opcodes .entry)) (now (cntrls .entry)) (now (scalars .entry))) (now (order .entry)) (stateOf (now (elements .entry)) (now (control .entry))) r (now (beside .exit)) (stateOf (now (elements .exit)) (now (control .exit)))) ⌝ }
+    ensures straight { λ r. ⌜ ((r, now (beside .exit)), now (elements .exit), now (control .exit), now (marks .exit)) ≡ left (now (control .entry)) (orderedRun (queueOf (now (opcodes .entry)) (now (cntrls .entry)) (now (scalars .entry))) (now (order .entry)) (markedOf (now (elements .entry)) (now (control .entry)) (now (marks .entry)))) ⌝ }
+    ensures walked { λ r. ⌜ ((r, now (beside .exit)), now (elements .exit), now (control .exit), now (marks .exit)) ≡ left (now (control .entry)) (walkedRun (queueOf (now (opcodes .entry)) (now (cntrls .entry)) (now (scalars .entry))) (now (order .entry)) (markedOf (now (elements .entry)) (now (control .entry)) (now (marks .entry)))) ⌝ }
+    ensures demand { λ r. ⌜ (length (now (control .entry)) ≡ 5 → AcceptedClaim (queueOf (now (opcodes .entry)) (now (cntrls .entry)) (now (scalars .entry))) (now (order .entry)) (markedOf (now (elements .entry)) (now (control .entry)) (now (marks .entry))) r (now (beside .exit)) (markedOf (now (elements .exit)) (now (control .exit)) (now (marks .exit)))) ⌝ }
 {
     let after = queue::run_order(
         elements,
+        marks,
         record::of(control),
         opcodes,
         cntrls,
@@ -212,20 +227,40 @@ pub extern "C" fn kuj_save(
     answers::give(saved::save(elements, record::of(control), file), beside)
 }
 
+// A file that loads marks every element; one that is refused marks none.
+fn mark_loaded(marks: &mut [u64; 16], given: Answer)
+    ensures { λ _. ⌜ now (marks .exit) ≡ pick (isDone given) allMarks (now (marks .entry)) ⌝ }
+{
+    if answer::is_done(given) {
+        marks::mark_all(marks);
+    }
+}
+
 // Loads a state from the bytes of a file.
 #[no_mangle]
 pub extern "C" fn kuj_load(
     elements: &mut [u64; 1024],
     control: &mut [u64; 5],
+    marks: &mut [u64; 16],
     file: &[u8],
     beside: &mut u64,
 ) -> u32
-    ensures { λ r. ⌜ ((r, now (beside .exit)), now (elements .exit), now (control .exit)) ≡ left (now (control .entry)) (loading (now (file .entry)) (stateOf (now (elements .entry)) (now (control .entry)))) ⌝ }
+    ensures { λ r. ⌜ ((r, now (beside .exit)), now (elements .exit), now (control .exit), now (marks .exit)) ≡ left (now (control .entry)) (loadingMarked (now (file .entry)) (markedOf (now (elements .entry)) (now (control .entry)) (now (marks .entry)))) ⌝ }
 {
     let after = saved::load(elements, record::of(control), file);
     let given = after.answer;
+    mark_loaded(marks, given);
     record::store(control, after.control);
     answers::give(given, beside)
+}
+
+// Clears the marks: no element is marked.
+#[no_mangle]
+pub extern "C" fn kuj_clear_marks(marks: &mut [u64; 16], beside: &mut u64) -> u32
+    ensures { λ r. ⌜ ((r, now (beside .exit)), now (marks .exit)) ≡ cleared ⌝ }
+{
+    marks::clear(marks);
+    answers::give(Answer::Done(0), beside)
 }
 
 // The reading of an element, as its kind and its bits.

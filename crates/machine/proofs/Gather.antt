@@ -10,8 +10,13 @@ use borrow.Author.Tests.{eqb-true}
 use Rattle.numbers.specs.Choice.{pick}
 use Rattle.numbers.proofs.BitLaws.{or-assoc, or-none}
 use Rattle.state.proofs.Marking.{marks-none, marks-twice, marks-swap}
-use Rattle.machine.specs.Run.{Gathered, Added, added, joined}
+use Rattle.state.specs.declared.Control.{Control}
+use Rattle.state.specs.Marks.{marked}
+use Rattle.state.specs.State.{state}
+use Rattle.machine.specs.declared.Progress.{Progress}
+use Rattle.machine.specs.Run.{Gathered, Added, added, joined, ended, finished}
 use Rattle.machine.specs.Step.{notes}
+use Rattle.machine.specs.Working.{underWay}
 
 abbrev gathered : ℕ → Bool → List ℕ → Gathered
 gathered v r m = record { vaer = v; recorded = r; marks = m }
@@ -74,3 +79,8 @@ notes-or r t u = at (eqb t 0) (eqb u 0) refl refl ∙ ap (λ (e : Bool). pick e 
     at true false e f = or-zero-l (bitOr u r) ∙ sym (ap (λ (x : ℕ). bitOr x r) (ap (λ (x : ℕ). bitOr x u) (eqb-true t 0 e) ∙ or-zero-l u))
     at false true e f = or-zero-r (bitOr t r) ∙ sym (ap (λ (x : ℕ). bitOr x r) (ap (bitOr t) (eqb-true u 0 f) ∙ or-zero-r t))
     at false false e f = twice
+
+-- ---- the end of a run, from what was noted in it and the lent elements and marks
+pub finishes : (l m : List ℕ) (p : Progress) (c : Control) → c ≡ ended (p .control) (p .noted .vaer) (p .noted .recorded)
+    → marked (state l c) m ≡ finished (underWay l m p)
+finishes l m p c e = ap (λ (d : Control). marked (state l d) m) e

@@ -19,6 +19,7 @@ use Rattle.state.proofs.Refusing.{refuses-marked}
 use Rattle.state.specs.State.{state, inRange, enabled, lengthInRange, vaerInRange, vpsrInRange}
 use Rattle.machine.specs.declared.Progress.{Progress}
 use Rattle.machine.specs.Run.{ended, finished}
+use Rattle.machine.proofs.Gather.{finishes}
 use Rattle.machine.specs.Working.{starting, underWay}
 use Rattle.touch.specs.Parts.{Queue, size, instructionAt}
 use Rattle.queue.specs.Queue.{wellFormed, positions, acceptance, straight}
@@ -106,7 +107,7 @@ module _ (q : Queue) (l m : List ℕ) (c : Control) (r : Answer) (asked : r ≡ 
       through : underWay l′ m′ p′ ≡ throughBy program (q .scalars) (length (q .scalars)) (underWay l m p) → marked (state l′ c′) m′ ≡ ranThrough q here
       unfolding ranThrough
       through e =
-          ap (λ (d : Control). marked (state l′ d) m′) ends
+          finishes l′ m′ p′ c′ ends
           ∙ ap finished
           (e
           ∙ ap (λ (n : ℕ). throughBy program (q .scalars) n (underWay l m p)) (reply-bounded f .lengths .scalars)
@@ -153,7 +154,7 @@ module _ (q : Queue) (l m : List ℕ) (c : Control) (r : Answer) (asked : r ≡ 
           → marked (state l′ c′) m′ ≡ ranBy q list here
       unfolding ranBy
       by-entries l′ m′ p p′ c′ starts ends w =
-          ap (λ (d : Control). marked (state l′ d) m′) ends
+          finishes l′ m′ p′ c′ ends
           ∙ ap finished
           (w
           ∙ run-same (actBy program (q .scalars)) (act q) list (λ x m z. same-acts q program same x (entry-of x m) z) (underWay l m p)

@@ -13,6 +13,7 @@ use Rattle.numbers.proofs.Tests.{and-left, pick-false}
 use Rattle.state.specs.declared.answer.Answer.the-variants.{QueueRefused}
 use Rattle.state.specs.declared.answer.Ended.{Ended}
 use Rattle.state.specs.Answer.{isDone}
+use Rattle.state.specs.Marks.{Marked, marked, noMarks}
 use Rattle.state.specs.Outcome.{Outcome, outcome, refused}
 use Rattle.state.specs.State.{State, state}
 use Rattle.state.proofs.Refusing.{refuses-state}
@@ -23,7 +24,7 @@ use Rattle.touch.specs.Parts.{queue}
 use Rattle.queue.specs.Run.{queueRun}
 use Rattle.running.specs.Records.{opcodeAt, controlWordAt, scalarAt, allUnfilled, wellFormed, each, queueIn}
 use Rattle.running.specs.Working.{filled, fileSize}
-use Rattle.running.specs.Runner.{fileIn, recordsIn, recordsRun, inputRun}
+use Rattle.running.specs.Runner.{fileIn, recordsIn, unmarked, recordsRun, inputRun}
 use Rattle.running.proofs.Parts.{filled-length, filled-each}
 
 pub formed : (l : List ℕ) (b : Bool) → b ≡ allUnfilled (length l / 16) l → (leb (length l) 256 && (eqb (length l % 16) 0 && b)) ≡ wellFormed l
@@ -62,16 +63,16 @@ module _ (bytes : List ℕ) (t : Bool) (e : t ≡ wellFormed bytes) where
         let k : length bytes / 16 ≤ 16 = few .0 in
         ap (take (length bytes / 16)) q ∙ filled-each (length bytes / 16) f l (omega arith)
 
-    pub queue-ran : (s : State) (o o₀ w w₀ x x₀ : List ℕ) (ran : Outcome State)
+    pub queue-ran : (s : State) (o o₀ w w₀ x x₀ : List ℕ) (ran : Outcome Marked)
         → length o₀ ≡ 16 → length w₀ ≡ 16 → length x₀ ≡ 16
         → o ≡ filled (length bytes / 16) (opcodeAt bytes) o₀ → w ≡ filled (length bytes / 16) (controlWordAt bytes) w₀
         → x ≡ filled (length bytes / 16) (scalarAt bytes) x₀
-        → ran ≡ queueRun (queue (take (length bytes / 16) o) (take (length bytes / 16) w) (take (length bytes / 16) x)) s
-        → ran ≡ recordsRun bytes s
+        → ran ≡ queueRun (queue (take (length bytes / 16) o) (take (length bytes / 16) w) (take (length bytes / 16) x)) (marked s noMarks)
+        → unmarked ran ≡ recordsRun bytes s
     unfolding recordsRun queueIn
     queue-ran s o o₀ w w₀ x x₀ ran ho hw hx eo ew ex r =
         let g = sym e ∙ not-false t u in
-        rw (g, ← part-each (opcodeAt bytes) o₀ o ho eo, ← part-each (controlWordAt bytes) w₀ w hw ew, ← part-each (scalarAt bytes) x₀ x hx ex) r
+        rw (g, ← part-each (opcodeAt bytes) o₀ o ho eo, ← part-each (controlWordAt bytes) w₀ w hw ew, ← part-each (scalarAt bytes) x₀ x hx ex) (ap unmarked r)
 
 -- ---- the file and the records after it
 module _ (input : List ℕ) (size : ℕ) (e : size ≡ fileSize (length input)) where

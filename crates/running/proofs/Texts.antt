@@ -15,19 +15,20 @@ use Rattle.numbers.proofs.Tests.{true-not-false}
 use Rattle.state.specs.declared.answer.Answer.{Answer}
 use Rattle.state.specs.declared.answer.Answer.the-variants.{Done}
 use Rattle.state.specs.Answer.{besideOf, isDone}
-use Rattle.state.specs.Outcome.{Outcome, outcome}
+use Rattle.state.specs.Marks.{Marked, marked, noMarks}
+use Rattle.state.specs.Outcome.{Outcome, outcome, refusedMarked}
 use Rattle.state.specs.State.{State, inRange}
 use Rattle.saved.specs.Load.{accepted, stateIn}
 use Rattle.touch.specs.Parts.{Queue}
 use Rattle.queue.specs.Queue.{acceptance}
-use Rattle.queue.specs.Run.{queueRun}
+use Rattle.queue.specs.Run.{ranThrough, queueRun}
 use Rattle.queue.proofs.Again.{run-in-range}
 use Rattle.listing.specs.Text.{listing, printed, answerLine, answerListed, stateListed}
 use Rattle.listing.specs.Working.{Wrote}
 use Rattle.listing.proofs.Writing.{wrote-both, wrote-length}
 use Rattle.listing.proofs.Printing.{wrote-printed, printed-wrote, ranged-listed, answer-line-length, listing-length}
 use Rattle.running.specs.Records.{wellFormed, queueIn}
-use Rattle.running.specs.Runner.{fileIn, recordsIn, recordsRun, inputRun, blank, textOf, inputPrinted}
+use Rattle.running.specs.Runner.{fileIn, recordsIn, unmarked, recordsRun, inputRun, blank, textOf, inputPrinted}
 
 -- ---- a run that is done leaves a state in range
 
@@ -40,13 +41,18 @@ else-refused : (b : Bool) (x y : Outcome State) → (b ≡ true → Ranged x) �
 else-refused true x y p q e = p refl e
 else-refused false x y p q e = absurd (true-not-false (sym (q refl) ∙ e))
 
-queue-ranged : (q : Queue) (s : State) → Ranged (queueRun q s)
+queue-ranged : (q : Queue) (b : Marked) → Ranged (unmarked (queueRun q b))
 unfolding queueRun
-queue-ranged q s = else-refused (isDone (acceptance (s .control) q)) _ _ (λ t e. run-in-range q s t) (λ t. t)
+queue-ranged q b = by (isDone (acceptance (b .state .control) q)) refl
+  where
+    by : (t : Bool) → isDone (acceptance (b .state .control) q) ≡ t
+        → Ranged (unmarked (pick t (outcome (Done 0) (ranThrough q b)) (refusedMarked (acceptance (b .state .control) q) b)))
+    by true t e = run-in-range q b t
+    by false t e = absurd (true-not-false (sym t ∙ e))
 
 records-ranged : (records : List ℕ) (s : State) → Ranged (recordsRun records s)
 unfolding recordsRun
-records-ranged records s = else-refused (wellFormed records) _ _ (λ t. queue-ranged (queueIn (length records / 16) records) s) (λ t. refl)
+records-ranged records s = else-refused (wellFormed records) _ _ (λ t. queue-ranged (queueIn (length records / 16) records) (marked s noMarks)) (λ t. refl)
 
 input-ranged : (input : List ℕ) (old : State) → Ranged (inputRun input old)
 unfolding inputRun

@@ -5,7 +5,8 @@ use lib.ListN.{length, take, drop, replicate}
 use Rattle.numbers.specs.Choice.{pick}
 use Rattle.state.specs.declared.answer.Answer.the-variants.{QueueRefused, BadFile}
 use Rattle.state.specs.Answer.{isDone}
-use Rattle.state.specs.Outcome.{Outcome, refusedState}
+use Rattle.state.specs.Marks.{Marked, marked, noMarks}
+use Rattle.state.specs.Outcome.{Outcome, outcome, refusedState}
 use Rattle.state.specs.declared.Control.{Control}
 use Rattle.state.specs.State.{State, state}
 use Rattle.saved.specs.Load.{accepted, leading, stateIn}
@@ -20,9 +21,16 @@ fileIn input = take 16464 input
 abbrev pub recordsIn : List ℕ → List ℕ
 recordsIn input = drop 16464 input
 
+-- without the marks, which the runner does not show
+abbrev pub unmarked : Outcome Marked → Outcome State
+unmarked o = outcome (o .answer) (o .left .state)
+
 -- the records on a state: 8 where they are no queue, then the queue's own numbers
 unfoldable pub recordsRun : List ℕ → State → Outcome State
-recordsRun records s = pick (wellFormed records) (queueRun (queueIn (length records / 16) records) s) (refusedState QueueRefused s)
+recordsRun records s =
+    pick (wellFormed records)
+    (unmarked (queueRun (queueIn (length records / 16) records) (marked s noMarks)))
+    (refusedState QueueRefused s)
 
 -- a bad file is 10 with its first bad record; `old` is the state before
 unfoldable pub inputRun : List ℕ → State → Outcome State

@@ -29,8 +29,11 @@ fn run_records(elements: &mut [u64; 1024], control: Control, bytes: &[u8]) -> En
     let mut cntrls = [0u16; 16];
     let mut scalars = [0u64; 16];
     records::take_apart(bytes, n, &mut opcodes, &mut cntrls, &mut scalars);
+    // The runner shows no marks.
+    let mut marks = [0u64; 16];
     queue::run(
         elements,
+        &mut marks,
         control,
         &opcodes[..n],
         &cntrls[..n],

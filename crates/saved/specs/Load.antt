@@ -8,6 +8,8 @@ use lib.ListN.{length, take, drop, set}
 use Rattle.numbers.specs.Bytes.{numberOf, allZero}
 use Rattle.numbers.specs.Choice.{pick}
 use Rattle.state.specs.declared.answer.Answer.the-variants.{Done, BadFile}
+use Rattle.state.specs.Answer.{isDone}
+use Rattle.state.specs.Marks.{Marked, marked, allMarks}
 use Rattle.state.specs.Outcome.{Outcome, outcome, refusedState}
 use Rattle.state.specs.State.{State, state, lengthInRange, vaerInRange, vpsrInRange}
 use Rattle.state.specs.declared.Control.{Control}
@@ -83,3 +85,10 @@ loading file old =
     pick (accepted file)
     (outcome (Done 0) (state (elementsIn 1024 file (old .elements)) (controlIn file)))
     (refusedState (BadFile (leading 1029 file)) old)
+
+-- the same of a state with its marks. Document 02, "Which elements were written" (Q-3): "Loading a file sets all bits"; a refused one changes none
+unfoldable pub loadingMarked : List ℕ → Marked → Outcome Marked
+loadingMarked file old = outcome (o .answer) (marked (o .left) (pick (isDone (o .answer)) allMarks (old .marks)))
+  where
+    o : Outcome State
+    o = loading file (old .state)

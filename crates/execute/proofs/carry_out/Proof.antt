@@ -1,6 +1,6 @@
 -- `carry_out` meets its contract: memory's outcome is the call's. Assumes nothing.
 use Rattle.execute.specs.Execute.{carriedOut}
-use Rattle.state.specs.State.{State}
+use Rattle.state.specs.Marks.{Marked}
 use Rattle.state.specs.Outcome.{outcome}
 use Rattle.state.specs.declared.answer.Answer.the-variants.{Done}
 use mathlib.Core.Path.{refl, sym, ap, _∙_}
@@ -27,7 +27,7 @@ returns-2 c =
     let s : tie.Start = search needs in
     let e : tie.Else1 = search needs in
     rw (sym (e .before .is-memory .ensures) ∙ e .if1 .left)
-    (ap (λ (x : State). outcome (Done 0) (x, s .args .window .now)) (c .register .ensures))
+    (ap (λ (x : Marked). outcome (Done 0) (x, s .args .window .now)) (c .register .ensures))
 
 pub carry-out-spec : {M : Type 1} → statement M
 carry-out-spec =

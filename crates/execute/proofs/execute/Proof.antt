@@ -1,14 +1,15 @@
 -- `execute` meets its contract: its tests come in the definition's order. Assumes nothing.
 use Rattle.execute.proofs.Executing.{out-of-range, refuses, executes, may-run}
-use Rattle.state.specs.State.{State, state}
+use Rattle.state.specs.Marks.{Marked, marked}
+use Rattle.state.specs.State.{state}
 use mathlib.Core.List.{[]}
 use borrow.Author.Needs.{needs}
 use Rattle.execute.proofs.execute.Statement.{statement}
 use Rattle.execute.proofs.execute.Tie as tie
 
--- the state that the call began with
-abbrev first : tie.Start → State
-first s = state (s .args .elements .now) (s .args .control)
+-- the state that the call began with, and its marks
+abbrev first : tie.Start → Marked
+first s = marked (state (s .args .elements .now) (s .args .control)) (s .args .marks .now)
 
 returns : tie.Need-returns
 returns c =

@@ -1,8 +1,9 @@
 -- `register` meets its contract: the instruction, whole, is the run. Assumes nothing.
 use Rattle.machine.specs.declared.Progress.{Progress}
-use Rattle.machine.specs.Run.{run, finished}
+use Rattle.machine.specs.Run.{finished}
+use Rattle.machine.specs.Working.{underWay}
 use Rattle.machine.specs.Instruction.{wholeOf, instructionDone}
-use Rattle.state.specs.State.{state}
+use Rattle.machine.proofs.Gather.{finishes}
 use mathlib.Core.Path.{ap, _∙_}
 use borrow.Author.Needs.{needs}
 use Rattle.execute.proofs.register.Statement.{statement}
@@ -16,8 +17,10 @@ unfolding instructionDone
 returns c =
     let s : tie.Start = search needs in let b : tie.After-begin = search needs in
     let a = s .args in
-    ap (state _) (c .end .ensures)
-    ∙ ap finished (c .before .whole .ensures ∙ ap (λ (p : Progress). wholeOf (a .instruction) (a .scalar) (run (a .elements .now) p)) (b .begin .ensures))
+    finishes _ _ (c .before .whole .result) _ (c .end .ensures)
+    ∙ ap finished
+    (c .before .whole .ensures
+    ∙ ap (λ (p : Progress). wholeOf (a .instruction) (a .scalar) (underWay (a .elements .now) (a .marks .now) p)) (b .begin .ensures))
 
 pub register-spec : {M : Type 1} → statement M
 register-spec =

@@ -13,7 +13,7 @@ returns c =
       rw (c .give .ensures, kept .store .ensures, ← of .of .ensures) (rw (← done .run-order .ensures .0)),
       (
         rw (c .give .ensures, kept .store .ensures, ← of .of .ensures) (rw (← done .run-order .ensures .1 .0)),
-        λ five. list-claim _ _ _ (done .run-order .result .answer) _ _ _ _ _ _ five (c .give .ensures) (kept .store .ensures)
+        λ five. list-claim _ _ _ (done .run-order .result .answer) _ _ _ _ _ _ _ five (c .give .ensures) (kept .store .ensures)
             (rw (of .of .ensures) at (done .run-order .ensures .1 .1)),
       ),
     )

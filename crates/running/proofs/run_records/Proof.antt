@@ -36,7 +36,11 @@ slice-aggregate-run-3 : tie.Need-slice-aggregate-run-3
 slice-aggregate-run-3 c = search (part-length, length-replicate {A = ℕ} 16 0, needs)
 
 returns-2 : tie.Need-returns-2
-returns-2 c = search (queue-ran, length-replicate {A = ℕ} 16 0, needs)
+returns-2 c =
+    let w : tie.After-well-formed = search needs in let e : tie.Else1 = search needs in let t : tie.After-take-apart = search needs in
+    let sixteen = length-replicate {A = ℕ} 16 0 in
+    queue-ran _ _ (w .well-formed .ensures) (e .if1 .left) _ _ _ _ _ _ _ _ sixteen sixteen sixteen
+    (t .take-apart .ensures .0) (t .take-apart .ensures .1) (t .take-apart .ensures .2) (c .run .ensures)
 
 pub run-records-spec : {M : Type 1} → statement M
 run-records-spec =
