@@ -3,9 +3,10 @@
  *
  *   kettle SAVED
  *
- * Loads a saved state, runs a queue on it, and prints what a panel would show. The state has one zone
+ * Loads a saved state, runs a queue on it, and prints what a panel would redraw. The state has one zone
  * of the kettle to an element: its temperature in V0, its heater's in V1, both F_floating. Each step a
- * zone moves an eighth of the way to its heater.
+ * zone moves an eighth of the way to its heater. The marks say which elements the queue wrote: only
+ * those are read.
  *
  * Exit status: 0; 1 if a call was refused (its number and what stands beside it are printed); 2 if the
  * file could not be read (standard error says why).
@@ -75,9 +76,17 @@ static void print_reading(const uint64_t elements[1024], const struct kuj_contro
     }
 }
 
+/* The registers that have a mark: which of their elements were written. */
+static void print_marks(const uint64_t marks[16])
+{
+    for (int r = 0; r < KUJ_REGISTERS; r++)
+        if (marks[r] != 0)
+            printf("wrote V%-2d  %016" PRIX64 "\n", r, marks[r]);
+}
+
 int main(int argc, char **argv)
 {
-    static uint64_t elements[KUJ_ELEMENTS];
+    static uint64_t elements[KUJ_ELEMENTS], marks[KUJ_MARKS]; /* zeros: new marks */
     static struct kuj_control control;
     static uint8_t saved[KUJ_FILE_BYTES + 1]; /* one more, so that a file too long is seen as such */
     uint64_t beside;
@@ -93,9 +102,11 @@ int main(int argc, char **argv)
         return 2;
     }
     fclose(file);
-    uint32_t number = kuj_load(elements, &control, saved, length, &beside);
+    uint32_t number = kuj_load(elements, &control, marks, saved, length, &beside);
     if (number != 0)
         return refused("load", number, beside);
+    /* Loading marks every element, for a panel to draw them all. This one draws what the step writes. */
+    kuj_clear_marks(marks, &beside);
 
     const uint8_t opcodes[] = { 0x8C, 0xA5, 0x84, 0xC5, 0xEC };
     const uint16_t cntrls[] = {
@@ -107,17 +118,22 @@ int main(int argc, char **argv)
     };
     const uint64_t scalars[] = { 0, 0x3F00 /* 0.125 */, 0, 0x43C8 /* 100.0 */, 0 };
     const size_t n = sizeof opcodes;
-    number = kuj_run(elements, &control, opcodes, n, cntrls, n, scalars, n, &beside);
+    number = kuj_run(elements, &control, marks, opcodes, n, cntrls, n, scalars, n, &beside);
     if (number != 0)
         return refused("run", number, beside);
 
     printf("zone   temperature   whole  boils\n");
-    for (uint32_t zone = 0; zone < control.vlr; zone++) {
+    for (uint32_t zone = 0; zone < KUJ_REGISTER_LENGTH; zone++) {
+        if (((marks[0] | marks[3]) >> zone & 1) == 0)
+            continue; /* neither field was written: the panel still shows what they hold */
         printf("%4" PRIu32, zone);
         print_reading(elements, &control, 0, zone, KUJ_F_FLOATING);
         print_reading(elements, &control, 3, zone, KUJ_LONGWORD);
+        /* The mask has no marks. It is written here for the zones that V0 is written for. */
         printf("  %s\n", control.vmr >> zone & 1 ? "yes" : "no");
     }
+    print_marks(marks);
+    kuj_clear_marks(marks, &beside); /* what was marked has been read; from here the next step counts */
     print_control(&control);
     return 0;
 }

@@ -4,9 +4,10 @@
 use std::process::exit;
 
 extern "C" {
-    fn kuj_load(elements: *mut u64, control: *mut u64, file: *const u8, file_len: usize, beside: *mut u64) -> u32;
+    fn kuj_load(elements: *mut u64, control: *mut u64, marks: *mut u64, file: *const u8, file_len: usize, beside: *mut u64) -> u32;
+    fn kuj_clear_marks(marks: *mut u64, beside: *mut u64) -> u32;
     fn kuj_run(
-        elements: *mut u64, control: *mut u64,
+        elements: *mut u64, control: *mut u64, marks: *mut u64,
         opcodes: *const u8, opcodes_len: usize, cntrls: *const u16, cntrls_len: usize, scalars: *const u64, scalars_len: usize,
         beside: *mut u64,
     ) -> u32;
@@ -29,17 +30,26 @@ fn main() {
         eprintln!("readings: {why}");
         exit(2)
     });
-    let (mut elements, mut control) = ([0u64; 1024], [0u64; 5]);
+    let (mut elements, mut control, mut marks) = ([0u64; 1024], [0u64; 5], [0u64; 16]); // new marks are zeros
     let (mut kind_read, mut bits, mut beside) = (0, 0, 0);
-    or_refused(unsafe { kuj_load(elements.as_mut_ptr(), control.as_mut_ptr(), saved.as_ptr(), saved.len(), &mut beside) }, beside);
+    let number = unsafe {
+        kuj_load(elements.as_mut_ptr(), control.as_mut_ptr(), marks.as_mut_ptr(), saved.as_ptr(), saved.len(), &mut beside)
+    };
+    or_refused(number, beside);
+    // Loading marks everything; from here, what the queue writes.
+    or_refused(unsafe { kuj_clear_marks(marks.as_mut_ptr(), &mut beside) }, beside);
 
     // V2 = V1 - V0, V2 = 0.125 * V2, V0 = V0 + V2
     let (opcodes, cntrls, scalars) = ([0x8Cu8, 0xA5, 0x84], [0x2102u16, 0x2022, 0x2020], [0u64, 0x3F00, 0]);
     let number = unsafe {
-        kuj_run(elements.as_mut_ptr(), control.as_mut_ptr(), opcodes.as_ptr(), 3, cntrls.as_ptr(), 3, scalars.as_ptr(), 3, &mut beside)
+        kuj_run(
+            elements.as_mut_ptr(), control.as_mut_ptr(), marks.as_mut_ptr(),
+            opcodes.as_ptr(), 3, cntrls.as_ptr(), 3, scalars.as_ptr(), 3, &mut beside,
+        )
     };
     or_refused(number, beside);
-    for zone in 0..control[0] as u32 {
+    // Those elements of V0 that were written.
+    for zone in (0..64).filter(|zone| marks[0] >> zone & 1 == 1) {
         let number = unsafe { kuj_reading(elements.as_ptr(), control.as_ptr(), 0, zone, 0, &mut kind_read, &mut bits, &mut beside) };
         or_refused(number, beside);
         match kind_read {

@@ -1,8 +1,8 @@
 /*
  * Kujawian: DEC's VAX vector instructions, as document 01 (the project's paper of exact rules) fixes
- * them, and document 02 (the requests made after it): Q-1 for division, Q-2 for underflow. The calls of
- * libkujawian.a, and names for the numbers that go in and out of them. docs/MANUAL.md has the rules
- * themselves, for a reader who has neither paper.
+ * them, and document 02 (the requests made after it): Q-1 for division, Q-2 for underflow, Q-3 for
+ * marks. The calls of libkujawian.a, and names for the numbers that go in and out of them.
+ * docs/MANUAL.md has the rules themselves, for a reader who has neither paper.
  *
  * Every call is total: it takes any numbers and any lengths, and ends. It returns a number of
  * document 01 and writes what stands beside that number to *beside, always: 0 where document 01
@@ -38,6 +38,15 @@
  *             exception wrote Vn); VPSR bit 0 (VEN) and bit 7 (AEX). Any other contents get 12, so a
  *             state is safe to hand in wherever it came from.
  *
+ * Beside the state the caller keeps marks. They say what was written, so that a panel has to read no
+ * more than that:
+ *
+ *   marks     16 words of 64 bits; bit e of word r is the mark of element e of register r. New marks
+ *             are zeros; a call takes any. From new marks, handed on unchanged from call to call, a bit
+ *             is one exactly when, since the last kuj_clear_marks, a file was loaded or an accepted
+ *             instruction wrote that element, whether or not its contents changed. They are not saved,
+ *             and control moves touch none.
+ *
  * C cuts an argument to its parameter's width and says nothing. So numbers that are tested are taken
  * wide (a register, an element and a kind in 32 bits, a new VLR or VCR in 64), and nothing is cut before
  * it is tested: 256 is no register 0 but gets 13, and 2^32 + 1 is no VLR 1 but gets 11. An opcode has
@@ -47,8 +56,8 @@
  * read, and may be NULL. No other pointer may be NULL. Arrays, slices and results lent to one call do
  * not overlap, unless all are const.
  *
- * A call keeps nothing behind: all it knows is what it is lent. Calls on different states may run at
- * the same time.
+ * A call keeps nothing behind: all it knows is what it is lent. Calls on different states, each with
+ * marks of its own, may run at the same time.
  */
 #ifndef KUJAWIAN_H
 #define KUJAWIAN_H
@@ -63,14 +72,15 @@ extern "C" {
 /* ---- Version ---- */
 
 #define KUJ_VERSION_MAJOR 0
-#define KUJ_VERSION_MINOR 12
+#define KUJ_VERSION_MINOR 13
 #define KUJ_VERSION_PATCH 0
-#define KUJ_VERSION "0.12.0"
+#define KUJ_VERSION "0.13.0"
 
 /* ---- Sizes ---- */
 
 enum {
     KUJ_ELEMENTS = 1024,    /* length of elements */
+    KUJ_MARKS = 16,         /* length of marks: a word to each register */
     KUJ_FILE_BYTES = 16464  /* length of a saved file: 1,029 records of 16 bytes */
 };
 
@@ -232,9 +242,12 @@ enum {
  *
  * 12, 1, 3, 2; a memory opcode also 4, then 5 or 6. 1 and 2 have 0 beside them, 5 and 6 the element.
  * 0: elements and control are those after the instruction, the window too for a store or scatter.
- * Nothing else of the window is written. Beside: 0.
+ * Nothing else of the window is written. Marks that are set stay, and the instruction sets those of the
+ * elements that it wrote in Vc: the ones it operated on, for a load or gather too; for a merge every one
+ * below VLR; for IOTA the first VCR, by the new VCR; for a compare, store or scatter none. What an
+ * exception leaves is written too. Beside: 0.
  */
-uint32_t kuj_execute(uint64_t elements[1024], struct kuj_control *control,
+uint32_t kuj_execute(uint64_t elements[1024], struct kuj_control *control, uint64_t marks[16],
                      uint8_t opcode, uint16_t cntrl, uint64_t scalar, uint32_t base, uint32_t stride,
                      uint8_t *window, size_t window_len, uint64_t origin,
                      uint64_t *beside);
@@ -245,9 +258,9 @@ uint32_t kuj_execute(uint64_t elements[1024], struct kuj_control *control,
  *
  * 12, 8, 3; then for each position from 0: 1, 7, 2, with the position beside it.
  * 0: elements and control are those after the last instruction; VEN and AEX change at the end, if an
- * exception was recorded. Beside: 0.
+ * exception was recorded. Marks that are set stay, and each instruction sets its own. Beside: 0.
  */
-uint32_t kuj_run(uint64_t elements[1024], struct kuj_control *control,
+uint32_t kuj_run(uint64_t elements[1024], struct kuj_control *control, uint64_t marks[16],
                  const uint8_t *opcodes, size_t opcodes_len,
                  const uint16_t *cntrls, size_t cntrls_len,
                  const uint64_t *scalars, size_t scalars_len,
@@ -262,9 +275,9 @@ uint32_t kuj_run(uint64_t elements[1024], struct kuj_control *control,
  *
  * As kuj_run; then 9 with the position of the first entry at fault beside it, or with the list's
  * length if only steps are missing.
- * 0: elements and control are what kuj_run leaves. Beside: 0.
+ * 0: elements, control and marks are what kuj_run leaves. Beside: 0.
  */
-uint32_t kuj_run_order(uint64_t elements[1024], struct kuj_control *control,
+uint32_t kuj_run_order(uint64_t elements[1024], struct kuj_control *control, uint64_t marks[16],
                        const uint8_t *opcodes, size_t opcodes_len,
                        const uint16_t *cntrls, size_t cntrls_len,
                        const uint64_t *scalars, size_t scalars_len,
@@ -274,7 +287,7 @@ uint32_t kuj_run_order(uint64_t elements[1024], struct kuj_control *control,
 /* ---- Saved state and readings ---- */
 
 /*
- * Saves the state (docs/FORMATS.md has the format).
+ * Saves the state (docs/FORMATS.md has the format). Marks are no part of it.
  *
  * 12; then 10 if file_len is below 16,464, with the first record that has no room, file_len / 16.
  * 0: the first 16,464 bytes of file are the saved state, the rest is kept. Beside: 0.
@@ -284,13 +297,13 @@ uint32_t kuj_save(const uint64_t elements[1024], const struct kuj_control *contr
                   uint64_t *beside);
 
 /*
- * Loads a saved state. The old contents of elements and control are not looked at.
+ * Loads a saved state. The old contents of elements, control and marks are not looked at.
  *
  * 10, with the first record that is missing, cut, out of range, misnumbered, has a filler byte that is
  * not zero, or is extra (1,029).
- * 0: elements and control are the saved ones. Beside: 0.
+ * 0: elements and control are the saved ones, and every mark is set. Beside: 0.
  */
-uint32_t kuj_load(uint64_t elements[1024], struct kuj_control *control,
+uint32_t kuj_load(uint64_t elements[1024], struct kuj_control *control, uint64_t marks[16],
                   const uint8_t *file, size_t file_len,
                   uint64_t *beside);
 
@@ -309,6 +322,16 @@ uint32_t kuj_reading(const uint64_t elements[1024], const struct kuj_control *co
                      uint32_t reg, uint32_t element, uint32_t kind,
                      uint64_t *kind_read, uint64_t *bits,
                      uint64_t *beside);
+
+/* ---- Marks ---- */
+
+/*
+ * Clears all marks. A panel calls it after it has read the elements whose marks are set, with no other
+ * call on these marks between: what that one wrote would be forgotten, unread.
+ *
+ * Always 0: every mark is zero. Beside: 0.
+ */
+uint32_t kuj_clear_marks(uint64_t marks[16], uint64_t *beside);
 
 /* ---- Control moves ---- */
 

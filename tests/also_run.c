@@ -8,11 +8,13 @@
 
 static uint64_t elements[1024];
 static struct kuj_control control;
+static uint64_t marks[16];
 static uint8_t window[16];
 
-// VEN 1, VLR as named, all else zero but for V1 = 1, 2, .. and V2 = 10, 20, ..
+// VEN 1, VLR as named, new marks, all else zero but for V1 = 1, 2, .. and V2 = 10, 20, ..
 static void start(uint64_t vlr) {
     memset(elements, 0, sizeof elements);
+    memset(marks, 0, sizeof marks);
     memset(window, 0, sizeof window);
     for (int i = 0; i < 64; i++) {
         elements[64 + i] = (uint64_t)i + 1;
@@ -22,8 +24,8 @@ static void start(uint64_t vlr) {
 }
 
 static void show(const char *name, uint32_t number, uint64_t beside) {
-    printf("%s: %" PRIu32 " %" PRIu64 ", V3[0] %" PRIu64 ", V3[1] %" PRIu64 ", V3[63] %" PRIu64 ", VLR %" PRIu64 ", window", name, number, beside,
-           elements[192], elements[193], elements[255], control.vlr);
+    printf("%s: %" PRIu32 " %" PRIu64 ", V3[0] %" PRIu64 ", V3[1] %" PRIu64 ", V3[63] %" PRIu64 ", marks of V3 %016" PRIX64 ", VLR %" PRIu64 ", window",
+           name, number, beside, elements[192], elements[193], elements[255], marks[3], control.vlr);
     for (size_t i = 0; i < sizeof window; i++) printf(" %02X", window[i]);
     printf("\n");
 }
@@ -32,7 +34,7 @@ static void show(const char *name, uint32_t number, uint64_t beside) {
 static void add(const char *name, uint64_t vlr) {
     uint64_t beside = 99;
     start(vlr);
-    uint32_t number = kuj_execute(elements, &control, 0x80, 0x2123, 0, 0, 0, window, 0, 0, &beside);
+    uint32_t number = kuj_execute(elements, &control, marks, 0x80, 0x2123, 0, 0, 0, window, 0, 0, &beside);
     show(name, number, beside);
 }
 
@@ -40,7 +42,7 @@ static void add(const char *name, uint64_t vlr) {
 static void store(const char *name, uint8_t opcode, uint64_t vlr, uint32_t base, uint32_t stride, size_t length) {
     uint64_t beside = 99;
     start(vlr);
-    uint32_t number = kuj_execute(elements, &control, opcode, 0x0002, 0, base, stride, window, length, 0x100, &beside);
+    uint32_t number = kuj_execute(elements, &control, marks, opcode, 0x0002, 0, base, stride, window, length, 0x100, &beside);
     show(name, number, beside);
 }
 

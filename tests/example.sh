@@ -24,7 +24,8 @@ examples/unlist.sh < examples/kettle.listing > "$out/worked.saved"
 run worked 0
 
 # The reserved operand 8000 as zone 1's heater: what comes of it is 8004, the zone shows its code, its
-# mask bit is clear, and the processor is disabled with VAER's types and registers V0, V2 and V3.
+# mask bit is clear, and the processor is disabled with VAER's types and registers V0, V2 and V3. What
+# an exception leaves is marked as any other result.
 sed 's/^V01\[01\] .*/V01[01] 0000000000008000/' examples/kettle.listing |
     examples/unlist.sh > "$out/fault.saved"
 cat > "$out/fault.expected" <<'END'
@@ -35,6 +36,9 @@ zone   temperature   whole  boils
    3    107.062500     107  yes
    4      0.312500       0  no
    5     48.593750      49  no
+wrote V0   000000000000003F
+wrote V2   000000000000003F
+wrote V3   000000000000003F
 VLR        refused, number 3
 VCR        refused, number 3
 VMR<31:0>  refused, number 3

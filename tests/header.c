@@ -44,8 +44,9 @@ IS(KUJ_VAER_OVERFLOW, 1 << 3); IS(KUJ_VAER_INTEGER_OVERFLOW, 1 << 5);
 IS(KUJ_VAER_REGISTER(0), 1u << 16); IS(KUJ_VAER_REGISTER(15), 1u << 31); IS(KUJ_VAER_BITS, 0xFFFF002F);
 IS(KUJ_VPSR_VEN, 1 << 0); IS(KUJ_VPSR_RST, 1 << 1); IS(KUJ_VPSR_AEX, 1 << 7); IS(KUJ_VPSR_BITS, 0x81);
 // Sizes, places, kinds.
-IS(KUJ_ELEMENTS, 1024); IS(KUJ_REGISTERS, 16); IS(KUJ_REGISTER_LENGTH, 64); IS(KUJ_CONTROL_NUMBERS, 5); IS(KUJ_RECORDS, 1029);
-IS(KUJ_RECORD_BYTES, 16); IS(KUJ_FILE_BYTES, 16464); IS(KUJ_QUEUE_LENGTH, 16); IS(KUJ_ORDER_LENGTH, 1024); IS(KUJ_WINDOW_BYTES, 65536);
+IS(KUJ_ELEMENTS, 1024); IS(KUJ_MARKS, 16); IS(KUJ_REGISTERS, 16); IS(KUJ_REGISTER_LENGTH, 64); IS(KUJ_CONTROL_NUMBERS, 5);
+IS(KUJ_RECORDS, 1029); IS(KUJ_RECORD_BYTES, 16); IS(KUJ_FILE_BYTES, 16464); IS(KUJ_QUEUE_LENGTH, 16); IS(KUJ_ORDER_LENGTH, 1024);
+IS(KUJ_WINDOW_BYTES, 65536);
 IS(KUJ_PLACE(5, 3), 323); IS(KUJ_STEP(1, 2), 66);
 IS(KUJ_F_FLOATING, 0); IS(KUJ_LONGWORD, 1); IS(KUJ_READ_BINARY64, 0); IS(KUJ_READ_LONGWORD, 1); IS(KUJ_READ_RESERVED, 2);
 
@@ -56,6 +57,7 @@ static const uint64_t UNWRITTEN = 0xDEADBEEF0BADF00D;
 static struct lent {
     uint64_t elements[KUJ_ELEMENTS];
     struct kuj_control control;
+    uint64_t marks[KUJ_MARKS];
     uint8_t window[WINDOW], file[FILE_ROOM];
     uint64_t beside, kind_read, bits;
 } is, want;
@@ -67,10 +69,12 @@ static int times[CALLS], differences, differences_before;
 #define V(LENT, R, E) (LENT).elements[(R) * 64 + (E)]
 
 // All elements zero, VLR as named, VEN 1. Mask, VCR 3 and VAER's bit of V0 are for a control taken in another order, which would be
-// out of range or have another VLR. The bytes of window and file count up.
+// out of range or have another VLR. Each register has one mark, so that one lost is seen: V0's is that of element 63, V1's of 62, and so
+// on, far from what the cases write. The bytes of window and file count up.
 static void start(uint64_t vlr) {
     memset(&is, 0, sizeof is);
     is.control = (struct kuj_control){ .vlr = vlr, .vmr = 0x8000000000000001, .vcr = 3, .vaer = 0x00010000, .vpsr = VEN };
+    for (int r = 0; r < KUJ_MARKS; r++) is.marks[r] = (uint64_t)1 << (63 - r);
     for (size_t k = 0; k < sizeof is.window; k++) is.window[k] = (uint8_t)k;
     for (size_t k = 0; k < sizeof is.file; k++) is.file[k] = (uint8_t)(k + 1);
     is.beside = is.kind_read = is.bits = UNWRITTEN;
@@ -84,6 +88,8 @@ static void expect(const char *call, const char *what, uint32_t number, uint32_t
            is.beside, number_wanted, beside_wanted);
     if (memcmp(is.elements, want.elements, sizeof is.elements) != 0) printf("; elements differ");
     if (memcmp(&is.control, &want.control, sizeof is.control) != 0) printf("; control differs");
+    for (int r = 0; r < KUJ_MARKS; r++)
+        if (is.marks[r] != want.marks[r]) printf("; marks of V%d %016" PRIX64 ", expected %016" PRIX64, r, is.marks[r], want.marks[r]);
     if (memcmp(is.window, want.window, sizeof is.window) != 0) printf("; the window differs");
     if (memcmp(is.file, want.file, sizeof is.file) != 0) printf("; the file differs");
     if (is.kind_read != want.kind_read) printf("; kind_read %" PRIu64 ", expected %" PRIu64, is.kind_read, want.kind_read);
@@ -100,15 +106,195 @@ static void end(int call) {
 // ---- kuj_execute ----
 
 #define EXECUTE(OPCODE, CNTRL, SCALAR, BASE, STRIDE, WINDOW_AT, LENGTH, ORIGIN) \
-    CALL(kuj_execute, .elements = is.elements, .control = &is.control, .opcode = OPCODE, .cntrl = CNTRL, .scalar = SCALAR, \
-         .base = BASE, .stride = STRIDE, .window = WINDOW_AT, .window_len = LENGTH, .origin = ORIGIN, .beside = &is.beside)
+    CALL(kuj_execute, .elements = is.elements, .control = &is.control, .marks = is.marks, .opcode = OPCODE, .cntrl = CNTRL, \
+         .scalar = SCALAR, .base = BASE, .stride = STRIDE, .window = WINDOW_AT, .window_len = LENGTH, .origin = ORIGIN, \
+         .beside = &is.beside)
+
+// New marks, a mask, and a window of zeros: on elements that are zero most instructions then leave everything as it was but for marks.
+static void start_new(uint64_t vlr, uint64_t vmr) {
+    start(vlr);
+    is.control.vmr = vmr;
+    memset(is.marks, 0, sizeof is.marks);
+    memset(is.window, 0, sizeof is.window);
+    want = is;
+}
+
+static void put_marked(const char *call, uint8_t opcode, uint16_t cntrl, uint64_t scalar) {
+    char what[80];
+    snprintf(what, sizeof what, "marks, opcode %02X, control word %04X, VLR %" PRIu64, opcode, cntrl, is.control.vlr);
+    uint32_t number = EXECUTE(opcode, cntrl, scalar, 0x1000, 0, is.window, 24, 0x1000);
+    expect(call, what, number, 0, 0);
+}
+
+// Q-3: what one instruction marks. "operated elements for operate instructions and loads, none for compare, every element below VLR for
+// merge, the first VCR for IOTA", "whether or not its contents changed".
+static void execute_marks(const char *call) {
+    // VLR 5, VMR F2: below VLR the mask has a one for elements 1 and 4 (hex 12), and a zero for 0, 2 and 3 (0D). MTF alone does nothing.
+    static const struct { uint16_t flags; uint64_t operated; } masks[] = {
+        { 0, 0x1F }, { KUJ_MTF, 0x1F }, { KUJ_MOE | KUJ_MTF, 0x12 }, { KUJ_MOE, 0x0D }
+    };
+    // Va (a conversion for EC), Vb 1, Vc 5, all zeros, and the scalar is zero too: zeros are what they leave. A division is of zero by 1.
+    static const struct { uint8_t opcode, va; } operate[] = {
+        { 0x80, 2 }, { 0x81, 2 }, { 0x88, 2 }, { 0x89, 2 }, { 0xA0, 2 }, { 0xA1, 2 }, { 0xC8, 2 }, { 0xC9, 2 }, { 0xE8, 2 }, { 0xE9, 2 },
+        { 0xCC, 2 }, { 0xCD, 2 }, { 0xE0, 2 }, { 0xE1, 2 }, { 0xE4, 2 }, { 0xE5, 2 }, { 0x84, 2 }, { 0x85, 2 }, { 0x8C, 2 }, { 0x8D, 2 },
+        { 0xA4, 2 }, { 0xA5, 2 }, { 0xAC, 2 }, { 0xAD, 2 }, { 0xEC, 1 }, { 0xEC, 4 }, { 0xEC, 5 },
+        // loads and gathers, of zeros; the offsets are zero
+        { 0x34, 0 }, { 0x36, 0 }, { 0x35, 0 }, { 0x37, 0 }
+    };
+    static const uint8_t merges[] = { 0xEE, 0xEF }, compares[] = { 0xC0, 0xC1, 0xC4, 0xC5 }, stores[] = { 0x9C, 0x9E, 0x9D, 0x9F };
+    for (size_t m = 0; m < sizeof masks / sizeof masks[0]; m++) {
+        const uint16_t flags = masks[m].flags;
+        for (size_t k = 0; k < sizeof operate / sizeof operate[0]; k++) {
+            start_new(5, 0xF2);
+            if ((operate[k].opcode & 0xFE) == 0xAC)
+                for (int e = 0; e < 64; e++) V(is, 1, e) = 0x4080;
+            want = is;
+            want.marks[5] = masks[m].operated;
+            put_marked(call, operate[k].opcode, KUJ_CNTRL(flags, operate[k].va, 1, 5), 0);
+        }
+        // MOE is ignored.
+        for (size_t k = 0; k < sizeof merges; k++) {
+            start_new(5, 0xF2);
+            want.marks[5] = 0x1F;
+            put_marked(call, merges[k], KUJ_CNTRL(flags, 2, 1, 5), 0);
+        }
+        // Relation 1, equal, stands where Vc would: zeros are equal, so the mask bits become one. V1 is not marked.
+        for (size_t k = 0; k < sizeof compares; k++) {
+            start_new(5, 0xF2);
+            want.control.vmr = 0xF2 | masks[m].operated;
+            put_marked(call, compares[k], KUJ_CNTRL(flags, 2, 3, KUJ_EQL), 0);
+        }
+        for (size_t k = 0; k < sizeof stores; k++) {
+            start_new(5, 0xF2);
+            put_marked(call, stores[k], KUJ_CNTRL(flags, 0, 1, 5), 0);
+        }
+    }
+
+    // The ends of a register, and each register's own word.
+    for (int r = 0; r < 16; r++) {
+        start_new(0, 0);
+        put_marked(call, 0x80, KUJ_CNTRL(0, 1, 2, r), 0);
+        start_new(1, 0);
+        want.marks[r] = 1;
+        put_marked(call, 0x80, KUJ_CNTRL(0, 1, 2, r), 0);
+        start_new(64, 0);
+        want.marks[r] = UINT64_MAX;
+        put_marked(call, 0x80, KUJ_CNTRL(0, 1, 2, r), 0);
+        start_new(64, 0x8000000000000001);
+        want.marks[r] = 0x8000000000000001;
+        put_marked(call, 0x80, KUJ_CNTRL(KUJ_MOE | KUJ_MTF, 1, 2, r), 0);
+    }
+
+    // "keeps any marks it is handed and adds its own": V5[1], V5[2] and V5[63] are marked, V5[0] to V5[2] are written. All stay marked.
+    start_new(3, 0);
+    is.marks[5] = 0x8000000000000006;
+    want = is;
+    want.marks[5] = 0x8000000000000007;
+    put_marked(call, 0x80, 0x0125, 0);
+    start_new(3, 0);
+    memset(is.marks, 0xFF, sizeof is.marks);
+    want = is;
+    put_marked(call, 0x80, 0x0125, 0);
+
+    // IOTA with stride 8, VLR 4, VMR B: MTF 1 writes 0, 8, 24 and MTF 0 writes 16. "the first VCR" is the new VCR, 3 or 1, not the old
+    // one. MOE is ignored.
+    start_new(4, 0xB);
+    is.control.vcr = 64;
+    want = is;
+    V(want, 5, 1) = 8;
+    V(want, 5, 2) = 24;
+    want.control.vcr = 3;
+    want.marks[5] = 7;
+    put_marked(call, 0xED, KUJ_CNTRL(KUJ_MTF, 0, 0, 5), 8);
+    start_new(4, 0xB);
+    V(want, 5, 0) = 16;
+    want.control.vcr = 1;
+    want.marks[5] = 1;
+    put_marked(call, 0xED, KUJ_CNTRL(KUJ_MOE, 0, 0, 5), 8);
+    // Nothing chosen, no element, all 64 (stride 0).
+    start_new(4, 0);
+    want.control.vcr = 0;
+    put_marked(call, 0xED, KUJ_CNTRL(KUJ_MTF, 0, 0, 5), 8);
+    start_new(0, UINT64_MAX);
+    want.control.vcr = 0;
+    put_marked(call, 0xED, KUJ_CNTRL(KUJ_MTF, 0, 0, 5), 8);
+    start_new(64, UINT64_MAX);
+    want.control.vcr = 64;
+    want.marks[5] = UINT64_MAX;
+    put_marked(call, 0xED, KUJ_CNTRL(KUJ_MTF, 0, 0, 5), 0);
+
+    // What an exception leaves is written. V5 = V1 times V2: 8000 (reserved) by 1 is 8004; the smallest by a half, without EXC, is a 0
+    // that leaves no trace; the largest by itself is 8008. VAER gets bits 2 and 3 and V5's.
+    start_new(3, 0);
+    V(is, 1, 0) = 0x8000, V(is, 2, 0) = 0x4080;
+    V(is, 1, 1) = 0x0080, V(is, 2, 1) = 0x4000;
+    V(is, 1, 2) = V(is, 2, 2) = 0xFFFF7FFF;
+    want = is;
+    V(want, 5, 0) = 0x8004;
+    V(want, 5, 2) = 0x8008;
+    want.control.vaer = 0x0021000C;
+    want.control.vpsr = AEX;
+    want.marks[5] = 7;
+    put_marked(call, 0xA4, 0x0125, 0);
+    // Zero by zero, and a reserved operand to a longword, which is a 0.
+    start_new(1, 0);
+    V(want, 5, 0) = 0x8002;
+    want.control.vaer = 0x00210002;
+    want.control.vpsr = AEX;
+    want.marks[5] = 1;
+    put_marked(call, 0xAC, 0x0125, 0);
+    start_new(1, 0);
+    V(is, 2, 0) = 0x8000;
+    want = is;
+    want.control.vaer = 0x00210004;
+    want.control.vpsr = AEX;
+    want.marks[5] = 1;
+    put_marked(call, 0xEC, 0x0425, 0);
+    // A reserved operand compared records bit 2, and marks nothing.
+    start_new(1, 1);
+    V(is, 2, 0) = 0x8000;
+    want = is;
+    want.control.vmr = 0;
+    want.control.vaer = 0x00010004;
+    want.control.vpsr = AEX;
+    put_marked(call, 0xC4, 0x0121, 0);
+
+    // "A refused call changes no mark", whichever number it gets. In 5 and 6 element 0 is good and element 1 is bad.
+    static const struct {
+        const char *what;
+        uint64_t vlr, vpsr;
+        uint8_t opcode;
+        uint16_t cntrl;
+        uint32_t stride;
+        uint64_t origin;
+        uint32_t number;
+        uint64_t beside;
+    } refused[] = {
+        { "marks, 12", 65, VEN, 0x80, 0x0125, 4, 0x1000, 12, 0 },
+        { "marks, 1", 2, VEN, 0xFF, 0x0125, 4, 0x1000, 1, 0 },
+        { "marks, 3", 2, 0, 0x80, 0x0125, 4, 0x1000, 3, 0 },
+        { "marks, 3 for a load", 2, 0, 0x34, 0x0005, 4, 0x1000, 3, 0 },
+        { "marks, 2 for a conversion", 2, VEN, 0xEC, 0x0025, 4, 0x1000, 2, 0 },
+        { "marks, 2 for a gather", 2, VEN, 0x35, 0x0055, 4, 0x1000, 2, 0 },
+        { "marks, 4", 2, VEN, 0x34, 0x0005, 4, 0x1001, 4, 0 },
+        { "marks, 5", 2, VEN, 0x34, 0x0005, 6, 0x1000, 5, 1 },
+        { "marks, 6", 2, VEN, 0x34, 0x0005, 24, 0x1000, 6, 1 },
+    };
+    for (size_t k = 0; k < sizeof refused / sizeof refused[0]; k++) {
+        start(refused[k].vlr);
+        is.control.vpsr = refused[k].vpsr;
+        want = is;
+        uint32_t number = EXECUTE(refused[k].opcode, refused[k].cntrl, 0, 0x1000, refused[k].stride, is.window, 24, refused[k].origin);
+        expect(call, refused[k].what, number, refused[k].number, refused[k].beside);
+    }
+}
 
 static void execute(void) {
     const char *call = "kuj_execute";
     uint32_t number;
 
     // Example 1: 81, 2025, scalar 1, VLR 2, V2 = 7FFFFFFF, 4, V5 all 9: V5 = 80000000, 5, then 9; VAER 00200020; VPSR 00000080.
-    // VAER's bit of V0 stays beside them. What only memory opcodes read holds anything.
+    // VAER's bit of V0 stays beside them. What only memory opcodes read holds anything. V5[0] and V5[1] are marked.
     start(2);
     V(is, 2, 0) = 0x7FFFFFFF;
     V(is, 2, 1) = 4;
@@ -116,6 +302,7 @@ static void execute(void) {
     want = is;
     V(want, 5, 0) = 0x80000000;
     V(want, 5, 1) = 5;
+    want.marks[5] |= 3;
     want.control.vaer = 0x00210020;
     want.control.vpsr = AEX;
     number = EXECUTE(0x81, 0x2025, 1, 3, 7, is.window, 16, 0x77);
@@ -131,6 +318,7 @@ static void execute(void) {
     V(want, 5, 0) = 0x40C0;
     V(want, 5, 1) = 0x1111111100008002;
     V(want, 5, 2) = 0x4100;
+    want.marks[5] |= 7;
     want.control.vaer = 0x00210002;
     want.control.vpsr = AEX;
     number = EXECUTE(0xAD, 0x0025, 0x8000800000004140, 3, 7, is.window, 16, 0x77);
@@ -159,6 +347,7 @@ static void execute(void) {
     want = is;
     V(want, 3, 0) = 0x1111111107060504;
     V(want, 3, 1) = 0x0000000003020100;
+    want.marks[3] |= 3;
     number = EXECUTE(0x34, 0x0003, 0x30, 0x1004, (uint32_t)-4, is.window, 24, 0x1000);
     expect(call, "load", number, 0, 0);
 
@@ -168,6 +357,7 @@ static void execute(void) {
     V(is, 2, 0) = 6;
     want = is;
     V(want, 3, 0) = 11;
+    want.marks[3] |= 1;
     number = EXECUTE(0x80, 0x0123, 0, 0, 0, NULL, 0, 0);
     expect(call, "add, window NULL", number, 0, 0);
     start(0);
@@ -184,6 +374,7 @@ static void execute(void) {
     want = is;
     number = EXECUTE(0x80, 0x0123, 0, 0, 0, is.window, 16, 0);
     expect(call, "VLR 2^32 + 1", number, 12, 0);
+    execute_marks(call);
     end(of_kuj_execute);
 }
 
@@ -195,19 +386,70 @@ static const uint8_t opcodes[] = { 0x81, 0xA1, 0xFF, 0xFF };
 static const uint16_t cntrls[] = { 0x0012, 0x0023, 0xFFFF, 0xFFFF };
 static const uint64_t scalars[] = { 100, 3, 1000, 1001 };
 
-// V1 = 5, 7, so V2 becomes 105, 107 and V3 315, 321, as far as VLR goes.
+// V1 = 5, 7, so V2 becomes 105, 107 and V3 315, 321, as far as VLR goes, and so far they are marked.
 static void start_queue(uint64_t vlr) {
     start(vlr);
     V(is, 1, 0) = 5;
     V(is, 1, 1) = 7;
     want = is;
-    if (vlr > 0) V(want, 2, 0) = 105, V(want, 3, 0) = 315;
-    if (vlr > 1) V(want, 2, 1) = 107, V(want, 3, 1) = 321;
+    if (vlr > 0) V(want, 2, 0) = 105, V(want, 3, 0) = 315, want.marks[2] |= 1, want.marks[3] |= 1;
+    if (vlr > 1) V(want, 2, 1) = 107, V(want, 3, 1) = 321, want.marks[2] |= 2, want.marks[3] |= 2;
 }
 
 #define RUN(OPCODES, N, CNTRLS, M, SCALARS, L) \
-    CALL(kuj_run, .elements = is.elements, .control = &is.control, .opcodes = OPCODES, .opcodes_len = N, .cntrls = CNTRLS, \
-         .cntrls_len = M, .scalars = SCALARS, .scalars_len = L, .beside = &is.beside)
+    CALL(kuj_run, .elements = is.elements, .control = &is.control, .marks = is.marks, .opcodes = OPCODES, .opcodes_len = N, \
+         .cntrls = CNTRLS, .cntrls_len = M, .scalars = SCALARS, .scalars_len = L, .beside = &is.beside)
+
+// Q-3, for a queue. VLR 4 and V1 = 5, 7, 0, 0.
+//   0  VMR: 5 < V1          VMR<1> alone of the four; VMR<63> stays. No register is marked.
+//   1  V2 = 0 + V1, MTF 1   the mask is that of position 0: V2[1] = 7
+//   2  V2 = 1 + V1, MTF 0   V2[0] = 6, V2[2] = 1, V2[3] = 1: with position 1 all four are marked
+//   3  IOTA to V4, MTF 1    V4[0] = 4, and VCR is 1
+//   4  V6 = V1, else V2     MTF 1; a merge: 6, 7, 1, 1
+//   5  V7 = 10 - V1, MTF 1  V7[1] = 3
+static const uint8_t marking[] = { 0xC1, 0x81, 0x81, 0xED, 0xEE, 0x89 };
+static const uint16_t marking_words[] = { 0x0012, 0xC012, 0x8012, 0x4004, 0xC126, 0xC017 };
+static const uint64_t marking_scalars[] = { 5, 0, 1, 4, 0, 10 };
+
+static void start_marking(void) {
+    start(4);
+    V(is, 1, 0) = 5;
+    V(is, 1, 1) = 7;
+    want = is;
+    V(want, 2, 0) = 6, V(want, 2, 1) = 7, V(want, 2, 2) = 1, V(want, 2, 3) = 1;
+    V(want, 4, 0) = 4;
+    V(want, 6, 0) = 6, V(want, 6, 1) = 7, V(want, 6, 2) = 1, V(want, 6, 3) = 1;
+    V(want, 7, 1) = 3;
+    want.control.vmr = 0x8000000000000002;
+    want.control.vcr = 1;
+    want.marks[2] |= 0xF, want.marks[4] |= 1, want.marks[6] |= 0xF, want.marks[7] |= 2;
+}
+
+// What a queue is refused with, at position 1: position 0 would have marked V2.
+static const struct bad_queue {
+    const char *what;
+    uint64_t vlr, vpsr;
+    uint8_t opcodes[2];
+    uint16_t cntrls[2];
+    uint32_t number;
+} bad_queues[] = {
+    { "marks, 12", 65, VEN, { 0x81, 0x81 }, { 0x0012, 0x0012 }, 12 },
+    { "marks, 3", 2, 0, { 0x81, 0x81 }, { 0x0012, 0x0012 }, 3 },
+    { "marks, 1", 2, VEN, { 0x81, 0xFF }, { 0x0012, 0x0012 }, 1 },
+    { "marks, 7", 2, VEN, { 0x81, 0x34 }, { 0x0012, 0x0012 }, 7 },
+    { "marks, 2", 2, VEN, { 0x81, 0xC0 }, { 0x0012, 0x0013 }, 2 },
+};
+enum { BAD_QUEUES = sizeof bad_queues / sizeof bad_queues[0] };
+
+static void start_bad(const struct bad_queue *bad) {
+    start(bad->vlr);
+    is.control.vpsr = bad->vpsr;
+    want = is;
+}
+
+static uint64_t bad_position(const struct bad_queue *bad) {
+    return bad->number == 12 || bad->number == 3 ? 0 : 1;
+}
 
 static void run(void) {
     const char *call = "kuj_run";
@@ -249,13 +491,22 @@ static void run(void) {
     is.beside = UNWRITTEN;
     number = RUN(NULL, 0, NULL, 0, NULL, 0);
     expect(call, "all NULL", number, 0, 0);
+
+    start_marking();
+    number = RUN(marking, 6, marking_words, 6, marking_scalars, 6);
+    expect(call, "marks of a queue", number, 0, 0);
+    for (int k = 0; k < BAD_QUEUES; k++) {
+        start_bad(&bad_queues[k]);
+        number = RUN(bad_queues[k].opcodes, 2, bad_queues[k].cntrls, 2, scalars, 2);
+        expect(call, bad_queues[k].what, number, bad_queues[k].number, bad_position(&bad_queues[k]));
+    }
     end(of_kuj_run);
 }
 
 #define RUN_ORDER(OPCODES, N, CNTRLS, M, SCALARS, L, ORDER, STEPS) \
-    CALL(kuj_run_order, .elements = is.elements, .control = &is.control, .opcodes = OPCODES, .opcodes_len = N, \
-         .cntrls = CNTRLS, .cntrls_len = M, .scalars = SCALARS, .scalars_len = L, .order = ORDER, .order_len = STEPS, \
-         .beside = &is.beside)
+    CALL(kuj_run_order, .elements = is.elements, .control = &is.control, .marks = is.marks, .opcodes = OPCODES, \
+         .opcodes_len = N, .cntrls = CNTRLS, .cntrls_len = M, .scalars = SCALARS, .scalars_len = L, .order = ORDER, \
+         .order_len = STEPS, .beside = &is.beside)
 
 static void run_order(void) {
     const char *call = "kuj_run_order";
@@ -311,6 +562,26 @@ static void run_order(void) {
     is.beside = UNWRITTEN;
     number = RUN_ORDER(NULL, 0, NULL, 0, NULL, 0, NULL, 0);
     expect(call, "all NULL", number, 0, 0);
+
+    // Q-3: "a permitted order leaves the same ones as the queue". Each element's steps in queue order, from the highest element; the IOTA,
+    // which only the compare binds, last.
+    static const uint64_t by_element[] = {
+        3, 67, 131, 259, 323, 2, 66, 130, 258, 322, 1, 65, 129, 257, 321, 0, 64, 128, 256, 320, 192
+    };
+    start_marking();
+    number = RUN_ORDER(marking, 6, marking_words, 6, marking_scalars, 6, by_element, 21);
+    expect(call, "marks of a list", number, 0, 0);
+    // The last step is missing: what the other twenty would have marked is not.
+    start_marking();
+    want = is;
+    number = RUN_ORDER(marking, 6, marking_words, 6, marking_scalars, 6, by_element, 20);
+    expect(call, "marks, 9", number, 9, 20);
+    static const uint64_t four[] = { 0, 1, 64, 65 };
+    for (int k = 0; k < BAD_QUEUES; k++) {
+        start_bad(&bad_queues[k]);
+        number = RUN_ORDER(bad_queues[k].opcodes, 2, bad_queues[k].cntrls, 2, scalars, 2, four, 4);
+        expect(call, bad_queues[k].what, number, bad_queues[k].number, bad_position(&bad_queues[k]));
+    }
     end(of_kuj_run_order);
 }
 
@@ -372,21 +643,33 @@ static void save(void) {
 }
 
 #define LOAD(FILE_AT, LENGTH) \
-    CALL(kuj_load, .elements = is.elements, .control = &is.control, .file = FILE_AT, .file_len = LENGTH, .beside = &is.beside)
+    CALL(kuj_load, .elements = is.elements, .control = &is.control, .marks = is.marks, .file = FILE_AT, .file_len = LENGTH, \
+         .beside = &is.beside)
 
 static void load(void) {
     const char *call = "kuj_load";
     uint32_t number;
 
-    // What stood there before, VLR 99 and a V0[0], is not looked at.
+    // What stood there before, VLR 99 and a V0[0], is not looked at. All elements are marked.
     start(99);
     V(is, 0, 0) = 1;
     put_file(is.file);
     want = is;
     memcpy(want.elements, saved_elements, sizeof want.elements);
     want.control = saved_control;
+    memset(want.marks, 0xFF, sizeof want.marks);
     number = LOAD(is.file, KUJ_FILE_BYTES);
     expect(call, "a file", number, 0, 0);
+
+    // Q-3: "Loading a file sets all bits", of new marks too.
+    start_new(0, 0);
+    put_file(is.file);
+    want = is;
+    memcpy(want.elements, saved_elements, sizeof want.elements);
+    want.control = saved_control;
+    memset(want.marks, 0xFF, sizeof want.marks);
+    number = LOAD(is.file, KUJ_FILE_BYTES);
+    expect(call, "a file, new marks", number, 0, 0);
 
     // A byte more is the extra record 1,029; VCR 65 is out of range, and VCR is record 1,026; a byte less cuts record 1,028.
     start(99);
@@ -405,6 +688,87 @@ static void load(void) {
     number = LOAD(NULL, 0);
     expect(call, "NULL", number, 10, 0);
     end(of_kuj_load);
+}
+
+// ---- kuj_clear_marks ----
+
+static void clear(const char *what) {
+    uint32_t number = CALL(kuj_clear_marks, .marks = is.marks, .beside = &is.beside);
+    memset(want.marks, 0, sizeof want.marks);
+    expect("kuj_clear_marks", what, number, 0, 0);
+    is.beside = UNWRITTEN;
+}
+
+static void clears(void) {
+    // Whatever they held.
+    start(2);
+    want = is;
+    clear("a mark of each register");
+    clear("new marks");
+    memset(is.marks, 0xFF, sizeof is.marks);
+    clear("all marks");
+
+    // Q-3: "From new marks, handed on unchanged from call to call, a bit is one exactly when, since the last clear, a file was loaded or an
+    // accepted instruction wrote that element". The marks go through every call that takes them, with control moves between.
+    const char *call = "marks from call to call";
+    static const uint64_t two[] = { 0, 64 };
+    uint32_t number;
+    start_new(2, 0);
+    V(is, 1, 0) = 5;
+    want = is;
+
+    // V4 = V1 + V1.
+    V(want, 4, 0) = 10;
+    want.marks[4] = 3;
+    number = EXECUTE(0x80, 0x0114, 0, 0, 0, NULL, 0, 0);
+    expect(call, "an instruction", number, 0, 0);
+
+    // At VLR 1: V2 = 100 + V1, then V3 = 3 * V2.
+    want.control.vlr = 1;
+    number = CALL(kuj_write_vlr, .control = &is.control, .value = 1, .beside = &is.beside);
+    expect(call, "a write of VLR", number, 0, 0);
+    V(want, 2, 0) = 105;
+    V(want, 3, 0) = 315;
+    want.marks[2] = 1;
+    want.marks[3] = 1;
+    number = RUN(opcodes, 2, cntrls, 2, scalars, 2);
+    expect(call, "a queue", number, 0, 0);
+
+    // Refused: opcode FF, which stands at position 2.
+    number = RUN(opcodes, 3, cntrls, 3, scalars, 3);
+    expect(call, "a queue that is refused", number, 1, 2);
+
+    // What is written after the clear is what it is since then, though the same contents come out.
+    clear("after three calls");
+    number = RUN_ORDER(opcodes, 2, cntrls, 2, scalars, 2, two, 1);
+    expect(call, "a list that is refused", number, 9, 1);
+    want.marks[2] = 1;
+    want.marks[3] = 1;
+    number = RUN_ORDER(opcodes, 2, cntrls, 2, scalars, 2, two, 2);
+    expect(call, "a list", number, 0, 0);
+
+    // A file that is refused, then one that is not.
+    number = LOAD(NULL, 0);
+    expect(call, "a file that is refused", number, 10, 0);
+    put_file(is.file);
+    put_file(want.file);
+    memcpy(want.elements, saved_elements, sizeof want.elements);
+    want.control = saved_control;
+    memset(want.marks, 0xFF, sizeof want.marks);
+    number = LOAD(is.file, KUJ_FILE_BYTES);
+    expect(call, "a file", number, 0, 0);
+    clear("after a file");
+
+    // VLR is 4 now. An IOTA, of the mask's only bit below VLR, writes V0[0]; a compare of V1 and V1, equal, writes the mask.
+    want.control.vcr = 1;
+    want.marks[0] = 1;
+    number = EXECUTE(0xED, 0x4000, 8, 0, 0, NULL, 0, 0);
+    expect(call, "an IOTA", number, 0, 0);
+    want.control.vmr = 0x800000000000000F;
+    number = EXECUTE(0xC0, 0x0111, 0, 0, 0, NULL, 0, 0);
+    expect(call, "a compare", number, 0, 0);
+    clear("at the end");
+    end(of_kuj_clear_marks);
 }
 
 // ---- kuj_reading ----
@@ -569,6 +933,7 @@ static void writes(void) {
 
 int main(void) {
     setvbuf(stdout, NULL, _IOLBF, BUFSIZ);
+    clears(); // first, for it puts other calls too
     execute();
     run();
     run_order();

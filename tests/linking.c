@@ -25,7 +25,7 @@ static void expect(const char *what, uint32_t number, uint64_t beside, uint32_t 
 
 static void empty_slices(void)
 {
-    static uint64_t elements[KUJ_ELEMENTS];
+    static uint64_t elements[KUJ_ELEMENTS], marks[KUJ_MARKS];
     struct kuj_control control = { .vlr = 4, .vpsr = 1 };
     const struct kuj_control before = control;
     const uint8_t opcode[1] = { 0x80 };
@@ -34,41 +34,41 @@ static void empty_slices(void)
     uint64_t beside;
     uint32_t n;
 
-    n = kuj_execute(elements, &control, 0x80, 0x0012, 0, 0, 0, NULL, 0, 0, &beside);
+    n = kuj_execute(elements, &control, marks, 0x80, 0x0012, 0, 0, 0, NULL, 0, 0, &beside);
     expect("execute, an add, window NULL", n, beside, 0, 0);
-    n = kuj_execute(elements, &control, 0x34, 0x0002, 0, 0, 4, NULL, 0, 0, &beside);
+    n = kuj_execute(elements, &control, marks, 0x34, 0x0002, 0, 0, 4, NULL, 0, 0, &beside);
     expect("execute, a load from a window that is NULL", n, beside, 6, 0);
-    n = kuj_execute(elements, &control, 0x9C, 0x0002, 0, 0, 4, NULL, 0, 0, &beside);
+    n = kuj_execute(elements, &control, marks, 0x9C, 0x0002, 0, 0, 4, NULL, 0, 0, &beside);
     expect("execute, a store to a window that is NULL", n, beside, 6, 0);
-    n = kuj_execute(elements, &control, 0x35, 0x0012, 0, 0, 0, NULL, 0, 0, &beside);
+    n = kuj_execute(elements, &control, marks, 0x35, 0x0012, 0, 0, 0, NULL, 0, 0, &beside);
     expect("execute, a gather from a window that is NULL", n, beside, 6, 0);
     control.vlr = 0;
-    n = kuj_execute(elements, &control, 0x34, 0x0002, 0, 0, 4, NULL, 0, 0, &beside);
+    n = kuj_execute(elements, &control, marks, 0x34, 0x0002, 0, 0, 4, NULL, 0, 0, &beside);
     expect("execute, a load of no element from a window that is NULL", n, beside, 0, 0);
-    n = kuj_execute(elements, &control, 0x9D, 0x0012, 0, 0, 0, NULL, 0, 0, &beside);
+    n = kuj_execute(elements, &control, marks, 0x9D, 0x0012, 0, 0, 0, NULL, 0, 0, &beside);
     expect("execute, a scatter of no element to a window that is NULL", n, beside, 0, 0);
     control.vlr = 4;
 
-    n = kuj_run(elements, &control, NULL, 0, NULL, 0, NULL, 0, &beside);
+    n = kuj_run(elements, &control, marks, NULL, 0, NULL, 0, NULL, 0, &beside);
     expect("run, nothing", n, beside, 0, 0);
-    n = kuj_run(elements, &control, opcode, 1, NULL, 0, NULL, 0, &beside);
+    n = kuj_run(elements, &control, marks, opcode, 1, NULL, 0, NULL, 0, &beside);
     expect("run, two parts NULL", n, beside, 8, 0);
-    n = kuj_run(elements, &control, NULL, 0, cntrl, 1, scalar, 1, &beside);
+    n = kuj_run(elements, &control, marks, NULL, 0, cntrl, 1, scalar, 1, &beside);
     expect("run, opcodes NULL", n, beside, 8, 0);
-    n = kuj_run_order(elements, &control, NULL, 0, NULL, 0, NULL, 0, NULL, 0, &beside);
+    n = kuj_run_order(elements, &control, marks, NULL, 0, NULL, 0, NULL, 0, NULL, 0, &beside);
     expect("run_order, nothing", n, beside, 0, 0);
-    n = kuj_run_order(elements, &control, NULL, 0, NULL, 0, NULL, 0, scalar, 1, &beside);
+    n = kuj_run_order(elements, &control, marks, NULL, 0, NULL, 0, NULL, 0, scalar, 1, &beside);
     expect("run_order, a list for no queue", n, beside, 9, 0);
-    n = kuj_run_order(elements, &control, opcode, 1, cntrl, 1, scalar, 1, NULL, 0, &beside);
+    n = kuj_run_order(elements, &control, marks, opcode, 1, cntrl, 1, scalar, 1, NULL, 0, &beside);
     expect("run_order, list NULL", n, beside, 9, 0);
     control.vlr = 0;
-    n = kuj_run_order(elements, &control, opcode, 1, cntrl, 1, scalar, 1, NULL, 0, &beside);
+    n = kuj_run_order(elements, &control, marks, opcode, 1, cntrl, 1, scalar, 1, NULL, 0, &beside);
     expect("run_order, list NULL at VLR 0", n, beside, 0, 0);
     control.vlr = 4;
 
     n = kuj_save(elements, &control, NULL, 0, &beside);
     expect("save, file NULL", n, beside, 10, 0);
-    n = kuj_load(elements, &control, NULL, 0, &beside);
+    n = kuj_load(elements, &control, marks, NULL, 0, &beside);
     expect("load, file NULL", n, beside, 10, 0);
 
     for (int k = 0; k < KUJ_ELEMENTS; k++)
@@ -81,6 +81,11 @@ static void empty_slices(void)
         printf("linking: a call with an empty slice altered the control record\n");
         failures++;
     }
+    for (int r = 0; r < KUJ_MARKS; r++)
+        if (marks[r] != (r == 2 ? 0xF : 0)) { /* the add wrote V2[0] to V2[3]; no other call wrote anything */
+            printf("linking: after calls with empty slices the marks of V%d are %016" PRIX64 "\n", r, marks[r]);
+            failures++;
+        }
 }
 
 /* ---- A state and its inputs, at places that are aligned to their items and no more ---- */
@@ -88,7 +93,7 @@ static void empty_slices(void)
 enum { PLACES = 2, LIST = 1024, WINDOW = 4096 };
 
 struct inputs {
-    uint64_t *elements, *scalars, *order, *beside, *kind_read, *bits;
+    uint64_t *elements, *marks, *scalars, *order, *beside, *kind_read, *bits;
     struct kuj_control *control;
     uint16_t *cntrls;
     uint8_t *opcodes, *file, *window;
@@ -111,6 +116,7 @@ static void lay_out(void)
         size_t off = p ? 8 : 0; /* at place 1 nothing lies at a multiple of more than its item's size */
         at[p].elements = take(&from, KUJ_ELEMENTS * 8, off);
         at[p].control = take(&from, sizeof *at[p].control, off);
+        at[p].marks = take(&from, KUJ_MARKS * 8, off);
         at[p].scalars = take(&from, 16 * 8, off);
         at[p].order = take(&from, LIST * 8, off);
         at[p].beside = take(&from, 8, off);
@@ -140,7 +146,7 @@ static const uint8_t accepted[] = {
 };
 enum { OPERATE = 32, ACCEPTED = sizeof accepted };
 
-/* Draws a state and a queue, the same at both places; the list is the queue's own order, for want of an IOTA. */
+/* Draws a state, marks and a queue, the same at both places; the list is the queue's own order, for want of an IOTA. */
 static size_t queue_length, list_length, chosen;
 static void draw(void)
 {
@@ -149,6 +155,8 @@ static void draw(void)
     *a->control = (struct kuj_control){ .vlr = vlr, .vmr = drawn(), .vpsr = 1 };
     for (int k = 0; k < KUJ_ELEMENTS; k++)
         a->elements[k] = drawn() & (drawn() % 2 ? ~0ull : 0xFFFF43FFull) & (drawn() % 8 ? ~0ull : 0xFC);
+    for (int r = 0; r < KUJ_MARKS; r++)
+        a->marks[r] = drawn() & drawn();
     queue_length = drawn() % 17;
     list_length = 0;
     chosen = drawn() % ACCEPTED;
@@ -168,6 +176,7 @@ static void draw(void)
             a->order[list_length++] = p * 64 + e;
     memcpy(b->control, a->control, sizeof *a->control);
     memcpy(b->elements, a->elements, KUJ_ELEMENTS * 8);
+    memcpy(b->marks, a->marks, KUJ_MARKS * 8);
     memcpy(b->opcodes, a->opcodes, 16);
     memcpy(b->cntrls, a->cntrls, 32);
     memcpy(b->scalars, a->scalars, 128);
@@ -177,13 +186,17 @@ static void draw(void)
 static uint32_t call(int which, const struct inputs *a)
 {
     switch (which) {
-    case 1: return kuj_execute(a->elements, a->control, accepted[chosen], a->cntrls[0], a->scalars[0], 0x1000, 8, a->window, WINDOW, 0x1000, a->beside);
-    case 2: return kuj_run(a->elements, a->control, a->opcodes, queue_length, a->cntrls, queue_length, a->scalars, queue_length, a->beside);
+    case 1:
+        return kuj_execute(a->elements, a->control, a->marks, accepted[chosen], a->cntrls[0], a->scalars[0], 0x1000, 8, a->window, WINDOW,
+                           0x1000, a->beside);
+    case 2:
+        return kuj_run(a->elements, a->control, a->marks, a->opcodes, queue_length, a->cntrls, queue_length, a->scalars, queue_length,
+                       a->beside);
     case 3:
-        return kuj_run_order(a->elements, a->control, a->opcodes, queue_length, a->cntrls, queue_length, a->scalars, queue_length,
+        return kuj_run_order(a->elements, a->control, a->marks, a->opcodes, queue_length, a->cntrls, queue_length, a->scalars, queue_length,
                              a->order, list_length, a->beside);
     case 4: return kuj_save(a->elements, a->control, a->file, KUJ_FILE_BYTES, a->beside);
-    case 5: return kuj_load(a->elements, a->control, a->file, KUJ_FILE_BYTES, a->beside);
+    case 5: return kuj_load(a->elements, a->control, a->marks, a->file, KUJ_FILE_BYTES, a->beside);
     case 6: return kuj_reading(a->elements, a->control, 2, 3, KUJ_F_FLOATING, a->kind_read, a->bits, a->beside);
     case 7: return kuj_read_vlr(a->control, a->beside);
     case 8: return kuj_read_vcr(a->control, a->beside);
@@ -196,13 +209,14 @@ static uint32_t call(int which, const struct inputs *a)
     case 15: return kuj_write_vmr_low(a->control, 17, a->beside);
     case 16: return kuj_write_vmr_high(a->control, 17, a->beside);
     case 17: return kuj_write_vpsr(a->control, 1, a->beside);
+    case 18: return kuj_clear_marks(a->marks, a->beside);
     }
     return 0; /* no call: what the way there takes */
 }
 static const char *const names[] = {
     "", "kuj_execute", "kuj_run", "kuj_run_order", "kuj_save", "kuj_load", "kuj_reading", "kuj_read_vlr", "kuj_read_vcr",
     "kuj_read_vmr_low", "kuj_read_vmr_high", "kuj_read_vaer", "kuj_read_vpsr", "kuj_write_vlr", "kuj_write_vcr", "kuj_write_vmr_low",
-    "kuj_write_vmr_high", "kuj_write_vpsr",
+    "kuj_write_vmr_high", "kuj_write_vpsr", "kuj_clear_marks",
 };
 enum { CALLS = sizeof names / sizeof names[0] };
 
@@ -252,7 +266,8 @@ int main(void)
             }
             done[which] += numbers[0] == 0;
             if (numbers[0] != numbers[1] || *at[0].beside != *at[1].beside || *at[0].bits != *at[1].bits ||
-                memcmp(at[0].elements, at[1].elements, KUJ_ELEMENTS * 8) != 0 || memcmp(at[0].file, at[1].file, KUJ_FILE_BYTES) != 0 ||
+                memcmp(at[0].elements, at[1].elements, KUJ_ELEMENTS * 8) != 0 ||
+                memcmp(at[0].marks, at[1].marks, KUJ_MARKS * 8) != 0 || memcmp(at[0].file, at[1].file, KUJ_FILE_BYTES) != 0 ||
                 memcmp(at[0].control, at[1].control, sizeof *at[0].control) != 0 || memcmp(at[0].window, at[1].window, WINDOW) != 0) {
                 printf("linking: %s gives something else where arrays are aligned to their items alone\n", names[which]);
                 return 1;

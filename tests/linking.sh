@@ -40,7 +40,7 @@ status=0
 "$out/linking" >"$out/seen" || status=$?
 [ "$status" -eq 0 ] || { grep '^linking:' "$out/seen" || true; say "tests/linking.c ended with $status"; }
 
-# A caller lays the parameters after the sixth on the stack: at most five, 40 bytes, and 8 to align them.
+# A caller lays the parameters after the sixth on the stack: at most six, 48 bytes; fewer take no more, aligned to 16.
 grep -v '^linking:' "$out/seen" | LC_ALL=C sort | join "$out/counted" - >"$out/both"
 [ "$(wc -l <"$out/both")" -eq "$(wc -l <"$out/calls")" ] || say "not every call was put on a painted stack"
 while read -r call counted seen; do
