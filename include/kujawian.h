@@ -234,7 +234,7 @@ enum {
  * 0: elements and control are those after the instruction, the window too for a store or scatter.
  * Nothing else of the window is written. Beside: 0.
  */
-uint32_t kuj_execute(uint64_t elements[1024], struct kuj_control *control,
+uint32_t kuj_execute(uint64_t elements[1024], struct kuj_control *control, uint64_t marks[16],
                      uint8_t opcode, uint16_t cntrl, uint64_t scalar, uint32_t base, uint32_t stride,
                      uint8_t *window, size_t window_len, uint64_t origin,
                      uint64_t *beside);
@@ -247,7 +247,7 @@ uint32_t kuj_execute(uint64_t elements[1024], struct kuj_control *control,
  * 0: elements and control are those after the last instruction; VEN and AEX change at the end, if an
  * exception was recorded. Beside: 0.
  */
-uint32_t kuj_run(uint64_t elements[1024], struct kuj_control *control,
+uint32_t kuj_run(uint64_t elements[1024], struct kuj_control *control, uint64_t marks[16],
                  const uint8_t *opcodes, size_t opcodes_len,
                  const uint16_t *cntrls, size_t cntrls_len,
                  const uint64_t *scalars, size_t scalars_len,
@@ -264,7 +264,7 @@ uint32_t kuj_run(uint64_t elements[1024], struct kuj_control *control,
  * length if only steps are missing.
  * 0: elements and control are what kuj_run leaves. Beside: 0.
  */
-uint32_t kuj_run_order(uint64_t elements[1024], struct kuj_control *control,
+uint32_t kuj_run_order(uint64_t elements[1024], struct kuj_control *control, uint64_t marks[16],
                        const uint8_t *opcodes, size_t opcodes_len,
                        const uint16_t *cntrls, size_t cntrls_len,
                        const uint64_t *scalars, size_t scalars_len,
@@ -290,9 +290,11 @@ uint32_t kuj_save(const uint64_t elements[1024], const struct kuj_control *contr
  * not zero, or is extra (1,029).
  * 0: elements and control are the saved ones. Beside: 0.
  */
-uint32_t kuj_load(uint64_t elements[1024], struct kuj_control *control,
+uint32_t kuj_load(uint64_t elements[1024], struct kuj_control *control, uint64_t marks[16],
                   const uint8_t *file, size_t file_len,
                   uint64_t *beside);
+
+uint32_t kuj_clear_marks(uint64_t marks[16], uint64_t *beside);
 
 /*
  * Reads one element as a panel shows it; kind is KUJ_F_FLOATING or KUJ_LONGWORD. Bits <31:0> of the
