@@ -4,8 +4,8 @@
  *   bench [LIMIT [LIST_LIMIT]]
  *
  * Each row is one piece of work, done by both. First every call of the row is put to both once, and
- * number, what stands beside it, elements, control, memory, file and bits have to be equal and as the
- * row expects (done, or refused there). Then timed rounds of the two alternate, and the best round of
+ * number, what stands beside it, elements, control, marks, memory, file and bits have to be equal and as
+ * the row expects (done, or refused there). Then timed rounds of the two alternate, and the best round of
  * each counts, so that other work on the machine weighs on neither. After every round what both left
  * has to be equal again.
  *
@@ -98,6 +98,7 @@ static uint64_t offset(void)
 struct side {
     _Alignas(4096) uint64_t elements[STATES][KUJ_ELEMENTS]; /* so that both lie alike in the caches */
     struct kuj_control control[STATES];
+    uint64_t marks[STATES][KUJ_REGISTERS];
     uint8_t window[WINDOW];
     uint8_t file[KUJ_FILE_BYTES];
     uint64_t beside, kind_read, bits;
@@ -114,6 +115,7 @@ static bool same_leftovers(void)
     struct side *p = &sides[0], *q = &sides[1];
     return memcmp(p->elements, q->elements, sizeof p->elements) == 0
         && memcmp(p->control, q->control, sizeof p->control) == 0
+        && memcmp(p->marks, q->marks, sizeof p->marks) == 0
         && memcmp(p->window, q->window, sizeof p->window) == 0
         && memcmp(p->file, q->file, sizeof p->file) == 0
         && p->beside == q->beside && p->kind_read == q->kind_read && p->bits == q->bits
@@ -128,6 +130,8 @@ static void fill(uint64_t (*operand)(void), bool offsets)
             sides[0].elements[s][k] = offsets && k / 64 / 2 == 3 ? offset() : operand();
         masks[s] = random_bits();
         sides[0].control[s] = (struct kuj_control){ .vlr = (uint64_t)vlr, .vmr = masks[s], .vpsr = 1 };
+        for (int r = 0; r < KUJ_REGISTERS; r++) /* few, so that most of what is added shows */
+            sides[0].marks[s][r] = random_bits() & random_bits() & random_bits();
     }
     for (int k = 0; k < WINDOW; k++)
         sides[0].window[k] = (uint8_t)random_bits();
@@ -170,25 +174,27 @@ static inline uint64_t call_execute(struct side *side, int k)
         side->control[s].vmr = masks[s];
         side->control[s].vpsr = 1;
     }
-    return answer(side->calls->execute(side->elements[s], &side->control[s], in->opcode, in->cntrl,
-                                       in->scalar, in->base, in->stride, side->window, WINDOW, ORIGIN,
-                                       &side->beside),
+    return answer(side->calls->execute(side->elements[s], &side->control[s], side->marks[s], in->opcode,
+                                       in->cntrl, in->scalar, in->base, in->stride, side->window, WINDOW,
+                                       ORIGIN, &side->beside),
                   side->beside);
 }
 
 static inline uint64_t call_run(struct side *side, int k)
 {
-    uint32_t number = side->calls->run(side->elements[k], &side->control[k], queue.opcodes, QUEUE,
-                                       queue.cntrls, QUEUE, queue.scalars, QUEUE, &side->beside);
+    uint32_t number = side->calls->run(side->elements[k], &side->control[k], side->marks[k],
+                                       queue.opcodes, QUEUE, queue.cntrls, QUEUE, queue.scalars, QUEUE,
+                                       &side->beside);
     return answer(number, side->beside);
 }
 
 static inline uint64_t call_run_order(struct side *side, int k)
 {
     int s = k % STATES;
-    uint32_t number = side->calls->run_order(side->elements[s], &side->control[s], queue.opcodes, QUEUE,
-                                             queue.cntrls, QUEUE, queue.scalars, QUEUE,
-                                             orders[k / STATES], (size_t)(QUEUE * vlr), &side->beside);
+    uint32_t number = side->calls->run_order(side->elements[s], &side->control[s], side->marks[s],
+                                             queue.opcodes, QUEUE, queue.cntrls, QUEUE, queue.scalars,
+                                             QUEUE, orders[k / STATES], (size_t)(QUEUE * vlr),
+                                             &side->beside);
     return answer(number, side->beside);
 }
 
@@ -201,8 +207,14 @@ static inline uint64_t call_save(struct side *side, int k)
 
 static inline uint64_t call_load(struct side *side, int k)
 {
-    uint32_t number = side->calls->load(side->elements[k], &side->control[k], side->file,
+    uint32_t number = side->calls->load(side->elements[k], &side->control[k], side->marks[k], side->file,
                                         KUJ_FILE_BYTES, &side->beside);
+    return answer(number, side->beside);
+}
+
+static inline uint64_t call_clear_marks(struct side *side, int k)
+{
+    uint32_t number = side->calls->clear_marks(side->marks[k], &side->beside);
     return answer(number, side->beside);
 }
 
@@ -266,6 +278,7 @@ PASSES(run)
 PASSES(run_order)
 PASSES(save)
 PASSES(load)
+PASSES(clear_marks)
 PASSES(reading)
 PASSES(read_vlr)
 PASSES(write_vlr)
@@ -650,7 +663,7 @@ static void queues(void)
     end("call");
 }
 
-/* ---- Rows of files, readings and control moves ---- */
+/* ---- Rows of files, marks, readings and control moves ---- */
 
 static void files(void)
 {
@@ -661,6 +674,9 @@ static void files(void)
     begin("load");
     row("1,029 records", "record", passes_load, call_load, STATES, 1029, 0, 0);
     end("record");
+    begin("clear marks");
+    row("16 words", "call", passes_clear_marks, call_clear_marks, STATES, 1, 0, 0);
+    end("call");
 }
 
 static void readings(void)

@@ -10,6 +10,7 @@ const struct calls TABLE = {
     .run_order = kuj_run_order,
     .save = kuj_save,
     .load = kuj_load,
+    .clear_marks = kuj_clear_marks,
     .reading = kuj_reading,
     .read_vlr = kuj_read_vlr,
     .write_vlr = kuj_write_vlr,

@@ -11,6 +11,7 @@ struct calls {
     __typeof__(kuj_run_order) *run_order;
     __typeof__(kuj_save) *save;
     __typeof__(kuj_load) *load;
+    __typeof__(kuj_clear_marks) *clear_marks;
     __typeof__(kuj_reading) *reading;
     __typeof__(kuj_read_vlr) *read_vlr;
     __typeof__(kuj_write_vlr) *write_vlr;

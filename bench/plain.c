@@ -1,5 +1,5 @@
 /*
- * The calls of include/kujawian.h in plain C, by document 01 and document 02's Q-1 and Q-2, as one would
+ * The calls of include/kujawian.h in plain C, by document 01 and document 02's Q-1 to Q-3, as one would
  * write them for speed: the switch over the operations outside, the loop over the elements inside. Nothing
  * here is proved. It is what the proved library is timed against, and tests/plain.sh holds it to the
  * independent program.
@@ -376,7 +376,8 @@ static void compare(const uint64_t *elements, struct kuj_control *control, const
     control->vmr = (control->vmr & ~which) | (found & ~refused & which);
 }
 
-static void iota(uint64_t *elements, struct kuj_control *control, const struct instruction *in)
+static void iota(uint64_t *elements, struct kuj_control *control, uint64_t *marks,
+                 const struct instruction *in)
 {
     uint64_t *vc = elements + 64 * in->vc;
     uint64_t left = in->mtf ? control->vmr : ~control->vmr;
@@ -385,11 +386,12 @@ static void iota(uint64_t *elements, struct kuj_control *control, const struct i
     for (; left; left &= left - 1, count++)
         vc[count] = with_low(vc[count], (uint32_t)__builtin_ctzll(left) * (uint32_t)in->scalar);
     control->vcr = count;
+    marks[in->vc] |= ones_below(count);
 }
 
-/* A whole operate instruction. What it records is gathered in *recorded. */
-static void operate(uint64_t *elements, struct kuj_control *control, const struct instruction *in,
-                    uint32_t *recorded)
+/* A whole operate instruction. What it records is gathered in *recorded, what it writes in the marks. */
+static void operate(uint64_t *elements, struct kuj_control *control, uint64_t *marks,
+                    const struct instruction *in, uint32_t *recorded)
 {
     OPERANDS;
     uint64_t *vc = elements + 64 * in->vc;
@@ -427,21 +429,22 @@ static void operate(uint64_t *elements, struct kuj_control *control, const struc
         *recorded |= types;
         return;
     case IOTA:
-        iota(elements, control, in);
+        iota(elements, control, marks, in);
         return;
     default:
         return;
     }
+    marks[in->vc] |= which;
     if (types)
         *recorded |= types | (uint32_t)0x10000 << in->vc;
 }
 
 /* One step of a list: the work of element i alone, or all of an IOTA. */
-static void step(uint64_t *elements, struct kuj_control *control, const struct instruction *in,
-                 unsigned i, uint32_t *recorded)
+static void step(uint64_t *elements, struct kuj_control *control, uint64_t *marks,
+                 const struct instruction *in, unsigned i, uint32_t *recorded)
 {
     if (in->work == IOTA) {
-        iota(elements, control, in);
+        iota(elements, control, marks, in);
         return;
     }
     bool match = (control->vmr >> i & 1) == in->mtf;
@@ -459,6 +462,7 @@ static void step(uint64_t *elements, struct kuj_control *control, const struct i
     uint64_t *c = elements + 64 * in->vc + i;
     uint32_t types = 0;
     *c = result(in->work, a, b, *c, match, in->exc, &types);
+    marks[in->vc] |= (uint64_t)1 << i;
     if (types)
         *recorded |= types | (uint32_t)0x10000 << in->vc;
 }
@@ -508,7 +512,7 @@ INLINE uint32_t located(const uint64_t *vb, bool odd, uint64_t which, unsigned v
     return DONE;
 }
 
-static uint32_t move(uint64_t *elements, const struct kuj_control *control,
+static uint32_t move(uint64_t *elements, const struct kuj_control *control, uint64_t *marks,
                      const struct instruction *in, uint32_t base, uint32_t stride, uint8_t *window,
                      size_t window_len, uint64_t origin, uint64_t *beside)
 {
@@ -531,12 +535,14 @@ static uint32_t move(uint64_t *elements, const struct kuj_control *control,
     case STORE_L: EACH(put32(window + offsets[i], (uint32_t)vc[i]);); break;
     default: EACH(put64(window + offsets[i], vc[i]);); break;
     }
+    if (in->work == LOAD_L || in->work == LOAD_Q)
+        marks[in->vc] |= which;
     return DONE;
 }
 
 /* ---- One instruction ---- */
 
-uint32_t kuj_execute(uint64_t elements[1024], struct kuj_control *control,
+uint32_t kuj_execute(uint64_t elements[1024], struct kuj_control *control, uint64_t marks[16],
                      uint8_t opcode, uint16_t cntrl, uint64_t scalar, uint32_t base, uint32_t stride,
                      uint8_t *window, size_t window_len, uint64_t origin, uint64_t *beside)
 {
@@ -552,9 +558,9 @@ uint32_t kuj_execute(uint64_t elements[1024], struct kuj_control *control,
         return RESERVED_CONTROL_WORD;
     struct instruction in = decoded(opcode, cntrl, scalar);
     if (work >= MEMORY)
-        return move(elements, control, &in, base, stride, window, window_len, origin, beside);
+        return move(elements, control, marks, &in, base, stride, window, window_len, origin, beside);
     uint32_t recorded = 0;
-    operate(elements, control, &in, &recorded);
+    operate(elements, control, marks, &in, &recorded);
     record(control, recorded);
     return DONE;
 }
@@ -589,7 +595,7 @@ static uint32_t accepted(const struct kuj_control *control, const uint8_t *opcod
     return DONE;
 }
 
-uint32_t kuj_run(uint64_t elements[1024], struct kuj_control *control,
+uint32_t kuj_run(uint64_t elements[1024], struct kuj_control *control, uint64_t marks[16],
                  const uint8_t *opcodes, size_t opcodes_len, const uint16_t *cntrls, size_t cntrls_len,
                  const uint64_t *scalars, size_t scalars_len, uint64_t *beside)
 {
@@ -600,7 +606,7 @@ uint32_t kuj_run(uint64_t elements[1024], struct kuj_control *control,
         return number;
     uint32_t recorded = 0;
     for (size_t p = 0; p < opcodes_len; p++)
-        operate(elements, control, &queue[p], &recorded);
+        operate(elements, control, marks, &queue[p], &recorded);
     record(control, recorded);
     return DONE;
 }
@@ -676,7 +682,7 @@ static bool permitted(const struct instruction *queue, size_t n, unsigned vlr,
     return order_len == steps;
 }
 
-uint32_t kuj_run_order(uint64_t elements[1024], struct kuj_control *control,
+uint32_t kuj_run_order(uint64_t elements[1024], struct kuj_control *control, uint64_t marks[16],
                        const uint8_t *opcodes, size_t opcodes_len,
                        const uint16_t *cntrls, size_t cntrls_len,
                        const uint64_t *scalars, size_t scalars_len,
@@ -691,7 +697,7 @@ uint32_t kuj_run_order(uint64_t elements[1024], struct kuj_control *control,
         return ORDER_REFUSED;
     uint32_t recorded = 0;
     for (size_t k = 0; k < order_len; k++)
-        step(elements, control, &queue[order[k] >> 6], order[k] & 63, &recorded);
+        step(elements, control, marks, &queue[order[k] >> 6], order[k] & 63, &recorded);
     record(control, recorded);
     *beside = 0;
     return DONE;
@@ -726,7 +732,7 @@ uint32_t kuj_save(const uint64_t elements[1024], const struct kuj_control *contr
     return DONE;
 }
 
-uint32_t kuj_load(uint64_t elements[1024], struct kuj_control *control,
+uint32_t kuj_load(uint64_t elements[1024], struct kuj_control *control, uint64_t marks[16],
                   const uint8_t *file, size_t file_len, uint64_t *beside)
 {
     size_t whole = file_len / 16 < RECORDS ? file_len / 16 : RECORDS;
@@ -751,6 +757,16 @@ uint32_t kuj_load(uint64_t elements[1024], struct kuj_control *control,
     for (size_t r = 0; r < 1024; r++)
         elements[r] = get64(file + 16 * r + 8);
     *control = loaded;
+    for (unsigned r = 0; r < 16; r++)
+        marks[r] = ~(uint64_t)0;
+    *beside = 0;
+    return DONE;
+}
+
+uint32_t kuj_clear_marks(uint64_t marks[16], uint64_t *beside)
+{
+    for (unsigned r = 0; r < 16; r++)
+        marks[r] = 0;
     *beside = 0;
     return DONE;
 }

@@ -4,6 +4,7 @@
 #define kuj_run_order plain_run_order
 #define kuj_save plain_save
 #define kuj_load plain_load
+#define kuj_clear_marks plain_clear_marks
 #define kuj_reading plain_reading
 #define kuj_read_vlr plain_read_vlr
 #define kuj_read_vcr plain_read_vcr

@@ -1,8 +1,9 @@
-//! Edge-biased inputs for comparisons: operands, states, instructions, memory, queues with lists, and
+//! Edge-biased inputs for comparisons: operands, states, marks, instructions, memory, queues with lists, and
 //! saved files. Everything is a function of the generator it is handed.
 
 use crate::float::{Operand, F};
 use crate::machine::*;
+use crate::marks::Marks;
 use crate::queue::{steps, Place, Queue, Step};
 use crate::random::Random;
 use crate::saved::{contents, file_of, FILE_BYTES, RECORDS};
@@ -326,6 +327,22 @@ pub fn state(random: &mut Random) -> State {
         break_range(random, &mut state);
     }
     state
+}
+
+/// Marks to hand in. New ones show as much as can be, and few hide what is added; only others can be lost.
+pub fn marks(random: &mut Random) -> Marks {
+    let sort = random.below(8);
+    let mut marks = Marks::clear();
+    for word in marks.words.iter_mut() {
+        *word = match sort {
+            0..=2 => 0,
+            3 => u64::MAX,
+            4 => random.bits() & random.bits() & random.bits(),
+            5 => mask(random),
+            _ => random.bits(),
+        };
+    }
+    marks
 }
 
 /// Values for VLR and VCR: about 64, and wide ones, some of which would be in range if they were cut to 8, 16 or 32 bits.
@@ -784,6 +801,7 @@ pub fn room(random: &mut Random) -> usize {
 mod tests {
     use super::*;
     use crate::queue::{accept, first_bad_entry, run, run_order};
+    use crate::saved::load;
     use crate::smallest::{near_smallest, NearSmallest};
     use std::collections::BTreeSet;
 
@@ -886,19 +904,22 @@ mod tests {
     #[test]
     fn permitted_orders_end_as_the_straight_run() {
         let mut random = Random::new(7);
-        let (mut exceptions, mut shuffled) = (0, 0);
+        let (mut exceptions, mut shuffled, mut added) = (0, 0, 0);
         for _ in 0..300 {
             let mut state = state_in_range(&mut random);
             state.vpsr |= VEN;
             let queue = Queue::of(&queue(&mut random));
             let instructions = accept(&state, &queue).unwrap();
             let order = permitted_order(&mut random, &instructions, state.vlr as usize);
-            let straight = run(&state, &queue).unwrap();
-            exceptions += usize::from(straight.vpsr & VEN == 0);
+            // Marks too (document 02, Q-3).
+            let marks = marks(&mut random);
+            let straight = run(&state, &marks, &queue).unwrap();
+            exceptions += usize::from(straight.0.vpsr & VEN == 0);
             shuffled += usize::from(order.windows(2).any(|pair| pair[0] > pair[1]));
-            assert_eq!(run_order(&state, &queue, &order), Ok(straight));
+            added += usize::from(straight.1 != marks);
+            assert_eq!(run_order(&state, &marks, &queue, &order), Ok(straight));
         }
-        assert!(exceptions > 50 && shuffled > 100, "{exceptions} {shuffled}");
+        assert!(exceptions > 50 && shuffled > 100 && added > 100, "{exceptions} {shuffled} {added}");
     }
 
     /// Each way of being bound that document 01 knows is gone against alone: the list is refused, and
@@ -957,14 +978,15 @@ mod tests {
                 let word = control_word(&mut random, opcode, false);
                 let instruction = Instruction { opcode, control_word: word, scalar: scalar(&mut random) };
                 let decoded = fields(work_of(opcode).unwrap(), &instruction);
-                let mut whole = state.clone();
-                let recorded = whole_instruction(&decoded, &mut whole);
-                let mut stepped = state.clone();
+                let marks = marks(&mut random);
+                let (mut whole, mut marks_whole) = (state.clone(), marks);
+                let recorded = whole_instruction(&decoded, &mut whole, &mut marks_whole);
+                let (mut stepped, mut marks_stepped) = (state.clone(), marks);
                 let mut any = false;
                 for step_ in steps(&[decoded], state.vlr as usize) {
-                    any |= step(&decoded, step_.element, &mut stepped);
+                    any |= step(&decoded, step_.element, &mut stepped, &mut marks_stepped);
                 }
-                assert_eq!((whole, recorded), (stepped, any));
+                assert_eq!((whole, marks_whole, recorded), (stepped, marks_stepped, any));
             }
         }
     }
@@ -996,8 +1018,12 @@ mod tests {
                 let decoded = fields(work_of(opcode).unwrap(), &instruction);
                 let all = steps(&[decoded], state.vlr as usize);
                 let one = &all[random.below(all.len() as u64) as usize];
-                let mut after = state.clone();
-                let recorded = step(&decoded, one.element, &mut after);
+                let (mut after, mut own) = (state.clone(), Marks::clear());
+                let recorded = step(&decoded, one.element, &mut after, &mut own);
+                // It marks nothing but what it is said to write.
+                for (register, element) in own.elements() {
+                    assert!(one.writes.contains(&Place::Element { register, element }));
+                }
                 // Everything not touched is drawn anew.
                 let mut other = state_in_range(&mut random);
                 (other.vlr, other.vaer, other.vpsr) = (state.vlr, state.vaer, state.vpsr);
@@ -1009,8 +1035,9 @@ mod tests {
                     put(&mut expected, place, value(&after, place));
                 }
                 expected.vaer = after.vaer;
-                let recorded_there = step(&decoded, one.element, &mut other);
-                assert_eq!((other, recorded_there), (expected, recorded));
+                let mut own_there = Marks::clear();
+                let recorded_there = step(&decoded, one.element, &mut other, &mut own_there);
+                assert_eq!((other, own_there, recorded_there), (expected, own, recorded));
                 // And on its own state nothing else moved.
                 let mut back = after.clone();
                 one.writes.iter().for_each(|&place| put(&mut back, place, value(&state, place)));
@@ -1018,6 +1045,120 @@ mod tests {
                 assert_eq!(back, state);
             }
         }
+    }
+
+    /// Document 02, Q-3, by its words: "operated elements for operate instructions and loads, none for compare, every
+    /// element below VLR for merge, the first VCR for IOTA". `after` is what the instruction left.
+    fn written_by(d: &Decoded, before: &State, after: &State) -> Marks {
+        let written = |element: usize| match d.work {
+            Work::CompareL | Work::CompareF | Work::Store { .. } | Work::Scatter { .. } => false,
+            Work::Merge => (element as u64) < before.vlr,
+            Work::Iota => (element as u64) < after.vcr,
+            _ => (element as u64) < before.vlr && (!d.moe || (before.vmr >> element & 1 == 1) == d.mtf),
+        };
+        let mut marks = Marks::clear();
+        (0..ELEMENTS).filter(|&element| written(element)).for_each(|element| marks.set(d.vc, element));
+        marks
+    }
+
+    fn both(some: &Marks, others: &Marks) -> Marks {
+        let mut marks = *some;
+        others.elements().into_iter().for_each(|(register, element)| marks.set(register, element));
+        marks
+    }
+
+    #[test]
+    fn an_instruction_adds_the_marks_that_the_papers_list() {
+        let mut random = Random::new(15);
+        let mut unchanged = 0;
+        for opcode in [accepted_opcodes(false), accepted_opcodes(true)].concat() {
+            let (mut done, mut added) = (0, 0);
+            for _ in 0..200 {
+                let mut state = state_in_range(&mut random);
+                state.vpsr |= VEN;
+                let word = control_word(&mut random, opcode, false);
+                let instruction = Instruction { opcode, control_word: word, scalar: scalar(&mut random) };
+                let decoded = fields(work_of(opcode).unwrap(), &instruction);
+                let memory = memory(&mut random, &decoded, &mut state);
+                let before = marks(&mut random);
+                let Ok((after, marks, _)) = execute(&state, &before, &instruction, &memory) else { continue };
+                let written = written_by(&decoded, &state, &after);
+                assert_eq!(marks, both(&before, &written), "{instruction:X?}");
+                // What is not marked did not change.
+                let same = |&(r, e): &(usize, usize)| after.registers[r][e] == state.registers[r][e];
+                assert!(Marks::all().elements().iter().filter(|&&(r, e)| !written.is_set(r, e)).all(same));
+                done += 1;
+                added += usize::from(marks != before);
+                unchanged += written.elements().iter().filter(|place| same(place)).count();
+            }
+            assert!(done > 40, "{opcode:02X}: {done}");
+            let marks_none = matches!(
+                work_of(opcode),
+                Some(Work::CompareL | Work::CompareF | Work::Store { .. } | Work::Scatter { .. })
+            );
+            assert_eq!(added == 0, marks_none, "{opcode:02X}: {added}");
+        }
+        assert!(unchanged > 1_000, "{unchanged}");
+    }
+
+    /// "From new marks, handed on unchanged from call to call, a bit is one exactly when, since the last clear, a file
+    /// was loaded or an accepted instruction wrote that element": a log of what was written, kept beside the calls.
+    #[test]
+    fn marks_are_what_was_written_since_the_last_clear() {
+        let mut random = Random::new(16);
+        let (mut loads, mut clears, mut refusals) = (0, 0, 0);
+        for _ in 0..200 {
+            let (mut state, mut marks) = (state(&mut random), Marks::clear());
+            let mut log: BTreeSet<(usize, usize)> = BTreeSet::new();
+            for _ in 0..20 {
+                match random.below(8) {
+                    0 => {
+                        clears += usize::from(!marks.is_clear());
+                        marks = Marks::clear();
+                        log.clear();
+                    }
+                    1 => {
+                        if let Ok(after) = load(&saved_file(&mut random)) {
+                            (state, marks) = after;
+                            log = Marks::all().elements().into_iter().collect();
+                            loads += 1;
+                        }
+                    }
+                    2 => {
+                        let value = random.pick(&[0x81, 0x81, 1, 0]);
+                        state = write_control(&state, Control::Vpsr, value).unwrap_or(state);
+                    }
+                    3..=5 => {
+                        let opcode = random.pick(&[accepted_opcodes(false), accepted_opcodes(true)].concat());
+                        let instruction = instruction(&mut random, opcode);
+                        let decoded = fields(work_of(opcode).unwrap(), &instruction);
+                        let memory = memory(&mut random, &decoded, &mut state);
+                        match execute(&state, &marks, &instruction, &memory) {
+                            Ok((after, marks_after, _)) => {
+                                log.extend(written_by(&decoded, &state, &after).elements());
+                                (state, marks) = (after, marks_after);
+                            }
+                            Err(_) => refusals += 1,
+                        }
+                    }
+                    _ => {
+                        let queue = any_queue(&mut random);
+                        let Ok(instructions) = accept(&state, &queue) else { continue };
+                        let straight = run(&state, &marks, &queue).unwrap();
+                        let order = permitted_order(&mut random, &instructions, state.vlr as usize);
+                        assert_eq!(run_order(&state, &marks, &queue, &order).as_ref(), Ok(&straight));
+                        for decoded in &instructions {
+                            let before = state.clone();
+                            whole_instruction(decoded, &mut state, &mut Marks::clear());
+                            log.extend(written_by(decoded, &before, &state).elements());
+                        }
+                        (state, marks) = straight;
+                    }
+                }
+                assert_eq!(marks.elements(), log.iter().copied().collect::<Vec<_>>());
+            }
+        }
+        assert!(loads > 100 && clears > 100 && refusals > 100, "{loads} {clears} {refusals}");
     }
 
     /// The generators reach every number a call can give.
@@ -1033,13 +1174,14 @@ mod tests {
                 Some(work) => memory(&mut random, &fields(work, &instruction), &mut state),
                 None => Memory::none(),
             };
-            numbers.insert(execute(&state, &instruction, &memory).map_or_else(|refusal| refusal.number, |_| 0));
+            let result = execute(&state, &Marks::clear(), &instruction, &memory);
+            numbers.insert(result.map_or_else(|refusal| refusal.number, |_| 0));
         }
         assert_eq!(numbers, BTreeSet::from([0, 1, 2, 3, 4, 5, 6, 12]));
         let mut numbers = BTreeSet::new();
         for _ in 0..3_000 {
             let (state, queue) = (state(&mut random), any_queue(&mut random));
-            numbers.insert(run(&state, &queue).map_or_else(|refusal| refusal.number, |_| 0));
+            numbers.insert(run(&state, &Marks::clear(), &queue).map_or_else(|refusal| refusal.number, |_| 0));
         }
         assert_eq!(numbers, BTreeSet::from([0, 1, 2, 3, 7, 8, 12]));
     }

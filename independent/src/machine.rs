@@ -1,8 +1,9 @@
-//! The vector processor of document 01, with document 02's divide: state, opcodes, one
-//! instruction, memory, control moves. Sections follow document 01's order. Calls take a state and give
-//! a new one, so that a refusal can change nothing.
+//! The vector processor of document 01, with document 02's divide and marks: state, opcodes,
+//! one instruction, memory, control moves. Sections follow document 01's order. Calls take a state, and
+//! marks if they write elements, and give new ones, so that a refusal can change nothing.
 
 use crate::float::{relation_holds, F, INTEGER_OVERFLOW};
+use crate::marks::Marks;
 
 // ---------------------------------------------------------------------------------------- The state
 
@@ -298,8 +299,9 @@ fn record(state: &mut State, d: &Decoded, types: u32) -> bool {
     true
 }
 
-/// What element i's work on `before` leaves, put into `after`. True if it recorded anything.
-fn element_into(d: &Decoded, element: usize, before: &State, after: &mut State) -> bool {
+/// What element i's work on `before` leaves, put into `after`; written, it is marked, whatever it held. True if it
+/// recorded anything.
+fn element_into(d: &Decoded, element: usize, before: &State, after: &mut State, marks: &mut Marks) -> bool {
     if !is_operated(d, before, element) {
         return false;
     }
@@ -311,17 +313,19 @@ fn element_into(d: &Decoded, element: usize, before: &State, after: &mut State) 
         after.set_mask_bit(element, left.value == 1);
     } else {
         after.registers[d.vc][element] = left.value;
+        marks.set(d.vc, element);
     }
     record(after, d, left.types)
 }
 
-fn iota(d: &Decoded, state: &mut State) {
+fn iota(d: &Decoded, state: &mut State, marks: &mut Marks) {
     let mut next = 0;
     for i in 0..state.vlr as usize {
         if state.mask_bit(i) == d.mtf {
             let offset = (i as u32).wrapping_mul(d.scalar as u32);
             let kept = state.registers[d.vc][next] >> 32 << 32;
             state.registers[d.vc][next] = kept | u64::from(offset);
+            marks.set(d.vc, next);
             next += 1;
         }
     }
@@ -330,27 +334,27 @@ fn iota(d: &Decoded, state: &mut State) {
 
 /// A whole register instruction: every element looks at the state the instruction began with.
 /// VEN and AEX are left to the caller. True if anything was recorded.
-pub fn whole_instruction(d: &Decoded, state: &mut State) -> bool {
+pub fn whole_instruction(d: &Decoded, state: &mut State, marks: &mut Marks) -> bool {
     if d.work == Work::Iota {
-        iota(d, state);
+        iota(d, state, marks);
         return false;
     }
     let before = state.clone();
     let mut recorded = false;
     for element in 0..before.vlr as usize {
-        recorded |= element_into(d, element, &before, state);
+        recorded |= element_into(d, element, &before, state, marks);
     }
     recorded
 }
 
 /// One step of a register instruction, on what the last step left.
-pub fn step(d: &Decoded, element: usize, state: &mut State) -> bool {
+pub fn step(d: &Decoded, element: usize, state: &mut State, marks: &mut Marks) -> bool {
     if d.work == Work::Iota {
-        iota(d, state);
+        iota(d, state, marks);
         return false;
     }
     let before = state.clone();
-    element_into(d, element, &before, state)
+    element_into(d, element, &before, state, marks)
 }
 
 // ------------------------------------------------------------------------------------------- Memory
@@ -385,7 +389,7 @@ pub fn address(d: &Decoded, state: &State, memory: &Memory, element: usize) -> u
     (base + offset) % (1 << 32)
 }
 
-fn memory_instruction(d: &Decoded, state: &mut State, memory: &mut Memory) -> Result<(), Refusal> {
+fn memory_instruction(d: &Decoded, state: &mut State, marks: &mut Marks, memory: &mut Memory) -> Result<(), Refusal> {
     if !window_is_allowed(memory) {
         return refuse(WINDOW_NOT_ALLOWED, 0);
     }
@@ -418,14 +422,22 @@ fn memory_instruction(d: &Decoded, state: &mut State, memory: &mut Memory) -> Re
                 *element = *element & !(0xFF << places) | u64::from(memory.window[at + byte]) << places;
             }
         }
+        if !stores {
+            marks.set(d.vc, i);
+        }
     }
     Ok(())
 }
 
 // ---------------------------------------------------------------------------------- One instruction
 
-/// One instruction: 12, 1, 3, 2, then for memory 4, 5 or 6. Gives the new state and window.
-pub fn execute(state: &State, instruction: &Instruction, memory: &Memory) -> Result<(State, Vec<u8>), Refusal> {
+/// One instruction: 12, 1, 3, 2, then for memory 4, 5 or 6. Gives the new state, marks and window.
+pub fn execute(
+    state: &State,
+    marks: &Marks,
+    instruction: &Instruction,
+    memory: &Memory,
+) -> Result<(State, Marks, Vec<u8>), Refusal> {
     if !state.in_range() {
         return refuse(STATE_OUT_OF_RANGE, 0);
     }
@@ -439,14 +451,14 @@ pub fn execute(state: &State, instruction: &Instruction, memory: &Memory) -> Res
     if control_word_is_reserved(&decoded) {
         return refuse(RESERVED_CONTROL_WORD, 0);
     }
-    let (mut state, mut memory) = (state.clone(), memory.clone());
+    let (mut state, mut marks, mut memory) = (state.clone(), *marks, memory.clone());
     if work.is_memory() {
-        memory_instruction(&decoded, &mut state, &mut memory)?;
+        memory_instruction(&decoded, &mut state, &mut marks, &mut memory)?;
     } else {
-        let recorded = whole_instruction(&decoded, &mut state);
+        let recorded = whole_instruction(&decoded, &mut state, &mut marks);
         state.end(recorded);
     }
-    Ok((state, memory.window))
+    Ok((state, marks, memory.window))
 }
 
 // ------------------------------------------------------------------------------------ Control moves

@@ -2,6 +2,7 @@
 //! plain definition: the places each step touches, compared pair by pair.
 
 use crate::machine::*;
+use crate::marks::Marks;
 
 /// The parts of a queue, which may be of unequal length.
 #[derive(Clone, PartialEq, Eq, Debug, Default)]
@@ -56,32 +57,32 @@ pub fn accept(state: &State, queue: &Queue) -> Result<Vec<Decoded>, Refusal> {
     Ok(accepted)
 }
 
-/// Straight through: each instruction whole, on what the last one left.
-pub fn run(state: &State, queue: &Queue) -> Result<State, Refusal> {
+/// Straight through: each instruction whole, on what the last one left. Gives the new state and marks.
+pub fn run(state: &State, marks: &Marks, queue: &Queue) -> Result<(State, Marks), Refusal> {
     let instructions = accept(state, queue)?;
-    let mut state = state.clone();
+    let (mut state, mut marks) = (state.clone(), *marks);
     let mut recorded = false;
     for instruction in &instructions {
-        recorded |= whole_instruction(instruction, &mut state);
+        recorded |= whole_instruction(instruction, &mut state, &mut marks);
     }
     state.end(recorded);
-    Ok(state)
+    Ok((state, marks))
 }
 
-/// By a list: each step on what the last step left.
-pub fn run_order(state: &State, queue: &Queue, order: &[u64]) -> Result<State, Refusal> {
+/// By a list: each step on what the last step left. Each adds the marks of what it writes itself.
+pub fn run_order(state: &State, marks: &Marks, queue: &Queue, order: &[u64]) -> Result<(State, Marks), Refusal> {
     let instructions = accept(state, queue)?;
     if let Some(bad) = first_bad_entry(&steps(&instructions, state.vlr as usize), order) {
         return refuse(ORDER_NOT_PERMITTED, bad as u64);
     }
-    let mut state = state.clone();
+    let (mut state, mut marks) = (state.clone(), *marks);
     let mut recorded = false;
     for &entry in order {
         let (position, element) = (entry as usize / 64, entry as usize % 64);
-        recorded |= step(&instructions[position], element, &mut state);
+        recorded |= step(&instructions[position], element, &mut state, &mut marks);
     }
     state.end(recorded);
-    Ok(state)
+    Ok((state, marks))
 }
 
 /// What a step may touch.

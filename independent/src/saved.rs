@@ -2,6 +2,7 @@
 
 use crate::float::F;
 use crate::machine::*;
+use crate::marks::Marks;
 
 pub const RECORDS: usize = 1_029;
 pub const FILE_BYTES: usize = 16_464;
@@ -44,8 +45,8 @@ fn content_in_range(record: usize, content: u64) -> bool {
     }
 }
 
-/// The state of a file, or 10 with its first bad record.
-pub fn load(file: &[u8]) -> Result<State, Refusal> {
+/// The state of a file, or 10 with its first bad record. The marks are not in it: all are set, whichever were before.
+pub fn load(file: &[u8]) -> Result<(State, Marks), Refusal> {
     let mut state = State::zero();
     for record in 0..RECORDS {
         let Some(bytes) = file.get(record * 16..record * 16 + 16) else {
@@ -69,7 +70,7 @@ pub fn load(file: &[u8]) -> Result<State, Refusal> {
     if file.len() > FILE_BYTES {
         return refuse(BAD_FILE, RECORDS as u64);
     }
-    Ok(state)
+    Ok((state, Marks::all()))
 }
 
 #[derive(Clone, Copy, PartialEq, Eq, Debug)]

@@ -1,6 +1,8 @@
-//! What the programs print: the lister (document 01) and the runner (the C interface's programs).
+//! What the programs print: the lister (document 01) and the runner (the C interface's programs). Neither prints
+//! marks.
 
 use crate::machine::{Instruction, Refusal, State, BAD_QUEUE};
+use crate::marks::Marks;
 use crate::queue::{run, Queue};
 use crate::saved::{load, FILE_BYTES};
 use std::fmt::Write;
@@ -26,7 +28,7 @@ pub fn listing(state: &State) -> String {
 /// What the lister prints for a file.
 pub fn lister(file: &[u8]) -> String {
     match load(file) {
-        Ok(state) => listing(&state),
+        Ok((state, _)) => listing(&state),
         Err(refusal) => format!("bad record {}\n", refusal.beside),
     }
 }
@@ -34,16 +36,16 @@ pub fn lister(file: &[u8]) -> String {
 /// What the runner prints for a saved file followed by instruction records.
 pub fn runner(input: &[u8]) -> String {
     match runner_state(input) {
-        Ok(state) => format!("0 0\n{}", listing(&state)),
+        Ok((state, _)) => format!("0 0\n{}", listing(&state)),
         Err(Refusal { number, beside }) => format!("{number} {beside}\n"),
     }
 }
 
-fn runner_state(input: &[u8]) -> Result<State, Refusal> {
+fn runner_state(input: &[u8]) -> Result<(State, Marks), Refusal> {
     let (file, records) = input.split_at(input.len().min(FILE_BYTES));
-    let state = load(file)?;
+    let (state, marks) = load(file)?;
     let instructions = instruction_records(records).ok_or(Refusal { number: BAD_QUEUE, beside: 0 })?;
-    run(&state, &Queue::of(&instructions))
+    run(&state, &marks, &Queue::of(&instructions))
 }
 
 /// Opcode, a zero byte, control word (2), 4 zero bytes, scalar (8); at most 16 of them.

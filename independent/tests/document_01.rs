@@ -2,9 +2,29 @@
 
 use independent::float::F;
 use independent::machine::*;
+use independent::marks::Marks;
 use independent::queue::*;
 use independent::saved::*;
 use independent::text;
+
+// The calls that take marks, without them: marks are document 02's, and tried there.
+
+fn execute(state: &State, instruction: &Instruction, memory: &Memory) -> Result<(State, Vec<u8>), Refusal> {
+    let done = independent::machine::execute(state, &Marks::clear(), instruction, memory);
+    done.map(|(state, _, window)| (state, window))
+}
+
+fn run(state: &State, queue: &Queue) -> Result<State, Refusal> {
+    independent::queue::run(state, &Marks::clear(), queue).map(|(state, _)| state)
+}
+
+fn run_order(state: &State, queue: &Queue, order: &[u64]) -> Result<State, Refusal> {
+    independent::queue::run_order(state, &Marks::clear(), queue, order).map(|(state, _)| state)
+}
+
+fn load(file: &[u8]) -> Result<State, Refusal> {
+    independent::saved::load(file).map(|(state, _)| state)
+}
 
 /// Runs one register instruction.
 fn one(state: &State, opcode: u8, control_word: u16, scalar: u64) -> Result<State, Refusal> {
