@@ -307,8 +307,6 @@ uint32_t kuj_load(uint64_t elements[1024], struct kuj_control *control, uint64_t
                   const uint8_t *file, size_t file_len,
                   uint64_t *beside);
 
-uint32_t kuj_clear_marks(uint64_t marks[16], uint64_t *beside);
-
 /*
  * Reads one element as a panel shows it; kind is KUJ_F_FLOATING or KUJ_LONGWORD. Bits <31:0> of the
  * element are read. It works while the processor is disabled.

@@ -1,10 +1,13 @@
 -- What each call keeps where it is refused. Assumes nothing.
 use mathlib.Core.Bool.{Bool, false}
 use mathlib.Core.List.{List}
+use mathlib.Core.Path.{ap₂}
 use Prim.Native.Nat.{ℕ}
+use Rattle.numbers.proofs.Tests.{pick-false}
 use Rattle.state.specs.declared.Control.{Control}
 use Rattle.state.specs.declared.answer.Answer.the-variants.{Done, Disabled, ValueRefused, OutOfRange, BadFile}
 use Rattle.state.specs.Answer.{isDone}
+use Rattle.state.specs.Marks.{Marked, marked, allMarks}
 use Rattle.state.specs.State.{State, inRange, enabled}
 use Rattle.control.specs.Moves.{writeWhen}
 use Rattle.opcodes.specs.declared.Decoded.{Decoded}
@@ -21,11 +24,11 @@ use Rattle.touch.specs.Parts.{Queue}
 use Rattle.queue.specs.Queue.{acceptance}
 use Rattle.queue.specs.Run.{ranThrough, queueRun, verdictOf, byVerdict, orderedRun}
 use Rattle.saved.specs.Save.{saving}
-use Rattle.saved.specs.Load.{accepted, loading}
+use Rattle.saved.specs.Load.{accepted, loading, loadingMarked}
 use Rattle.listing.specs.Text.{printed, stateListed, listing}
 use lib.Dec.{leb}
 use lib.ListN.{length}
-use Rattle.demands.proofs.Keeping.{Keeps, done-keeps, same-keeps, either-keeps, refused-keeps, state-keeps, window-keeps}
+use Rattle.demands.proofs.Keeping.{Keeps, done-keeps, same-keeps, either-keeps, refused-keeps, state-keeps, marked-keeps, window-keeps}
 
 pub write-keeps : (allowed accepted : Bool) (c next : Control) → Keeps (writeWhen allowed accepted c next) c
 unfolding writeWhen
@@ -34,31 +37,31 @@ write-keeps allowed accepted c next =
     (either-keeps allowed (either-keeps accepted (done-keeps 0 next c) (refused-keeps ValueRefused c)) (refused-keeps Disabled c))
     (refused-keeps OutOfRange c)
 
-moved-keeps : (s : State) (ins : Instruction) (base stride : ℕ) (w : List ℕ) (origin : ℕ) → Keeps (movedOf s ins base stride w origin) (s, w)
-moved-keeps s ins base stride w origin = record { kept = moved-kept s ins base stride w origin }
+moved-keeps : (b : Marked) (ins : Instruction) (base stride : ℕ) (w : List ℕ) (origin : ℕ) → Keeps (movedOf b ins base stride w origin) (b, w)
+moved-keeps b ins base stride w origin = record { kept = moved-kept b ins base stride w origin }
 
-pub execute-keeps : (s : State) (opcode cntrl scalar base stride : ℕ) (w : List ℕ) (origin : ℕ)
-    → Keeps (executedOf s opcode cntrl scalar base stride w origin) (s, w)
+pub execute-keeps : (b : Marked) (opcode cntrl scalar base stride : ℕ) (w : List ℕ) (origin : ℕ)
+    → Keeps (executedOf b opcode cntrl scalar base stride w origin) (b, w)
 unfolding executedOf carriedOut
-execute-keeps s opcode cntrl scalar base stride w origin =
-    either-keeps (inRange (s .control)) (by (decodedOf (enabled (s .control)) false 0 opcode cntrl)) (window-keeps OutOfRange s w)
+execute-keeps b opcode cntrl scalar base stride w origin =
+    either-keeps (inRange (b .state .control)) (by (decodedOf (enabled (b .state .control)) false 0 opcode cntrl)) (window-keeps OutOfRange b w)
   where
-    by : (d : Decoded) → Keeps (asDecoded d s scalar base stride w origin) (s, w)
-    by (Refused a) = window-keeps a s w
-    by (Accepted ins) = either-keeps (isMemory (ins .work)) (moved-keeps s ins base stride w origin) (done-keeps 0 _ (s, w))
+    by : (d : Decoded) → Keeps (asDecoded d b scalar base stride w origin) (b, w)
+    by (Refused a) = window-keeps a b w
+    by (Accepted ins) = either-keeps (isMemory (ins .work)) (moved-keeps b ins base stride w origin) (done-keeps 0 _ (b, w))
 
-pub run-keeps : (q : Queue) (s : State) → Keeps (queueRun q s) s
+pub run-keeps : (q : Queue) (b : Marked) → Keeps (queueRun q b) b
 unfolding queueRun
-run-keeps q s = either-keeps (isDone (acceptance (s .control) q)) (done-keeps 0 (ranThrough q s) s) (state-keeps (acceptance (s .control) q) s)
+run-keeps q b = either-keeps (isDone (acceptance (b .state .control) q)) (done-keeps 0 (ranThrough q b) b) (marked-keeps (acceptance (b .state .control) q) b)
 
-pub order-keeps : (q : Queue) (list : List ℕ) (s : State) → Keeps (orderedRun q list s) s
+pub order-keeps : (q : Queue) (list : List ℕ) (b : Marked) → Keeps (orderedRun q list b) b
 unfolding orderedRun
-order-keeps q list s =
-    either-keeps (isDone (acceptance (s .control) q)) (by (verdictOf q (s .control .vlr) list)) (state-keeps (acceptance (s .control) q) s)
+order-keeps q list b =
+    either-keeps (isDone (acceptance (b .state .control) q)) (by (verdictOf q (b .state .control .vlr) list)) (marked-keeps (acceptance (b .state .control) q) b)
   where
-    by : (v : Verdict) → Keeps (byVerdict s (ranThrough q s) v) s
-    by verdict.Permitted = done-keeps 0 (ranThrough q s) s
-    by (verdict.Refused place) = state-keeps _ s
+    by : (v : Verdict) → Keeps (byVerdict b (ranThrough q b) v) b
+    by verdict.Permitted = done-keeps 0 (ranThrough q b) b
+    by (verdict.Refused place) = marked-keeps _ b
 
 pub save-keeps : (s : State) (bytes : List ℕ) → Keeps (saving s bytes) bytes
 unfolding saving
@@ -67,9 +70,15 @@ save-keeps s bytes =
     (either-keeps (leb 16464 (length bytes)) (done-keeps 0 _ bytes) (same-keeps (BadFile _) bytes))
     (same-keeps OutOfRange bytes)
 
-pub load-keeps : (file : List ℕ) (s : State) → Keeps (loading file s) s
+loading-keeps : (file : List ℕ) (s : State) → Keeps (loading file s) s
 unfolding loading
-load-keeps file s = either-keeps (accepted file) (done-keeps 0 _ s) (state-keeps _ s)
+loading-keeps file s = either-keeps (accepted file) (done-keeps 0 _ s) (state-keeps _ s)
+
+pub load-keeps : (file : List ℕ) (b : Marked) → Keeps (loadingMarked file b) b
+unfolding loadingMarked
+load-keeps file b = record {
+  kept = λ e. ap₂ marked (loading-keeps file (b .state) .kept e) (pick-false (isDone (loading file (b .state) .answer)) allMarks (b .marks) e);
+}
 
 pub print-keeps : (room : ℕ) (text bytes : List ℕ) → Keeps (printed room text bytes) bytes
 unfolding printed

@@ -11,12 +11,13 @@ use lib.Seq.{getD-set-same, getD-set-other}
 use Rattle.numbers.specs.Choice.{pick}
 use Rattle.numbers.specs.Halves.{low, withLow}
 use Rattle.numbers.proofs.Tests.{pick-true, below-or-not}
-use Rattle.state.specs.State.{State, placeOf}
+use Rattle.state.specs.Marks.{Marked}
+use Rattle.state.specs.State.{placeOf}
 use Rattle.state.specs.Elements.{at, matches}
 use Rattle.opcodes.specs.declared.Instruction.{Instruction}
 use Rattle.opcodes.specs.Opcodes.{inOneStep}
 use Rattle.opcodes.specs.Working.{Below}
-use Rattle.machine.specs.Run.{Run, begun, finished}
+use Rattle.machine.specs.Run.{Run, joined, begun, finished}
 use Rattle.machine.specs.Iota.{matching, turned, walked, iotaStep}
 use Rattle.machine.specs.Instruction.{stepOf, stepsBelow, wholeOf, instructionDone}
 use Rattle.machine.proofs.IotaLaws.{matching-le}
@@ -87,42 +88,42 @@ module _ (vmr : ℕ) (mtf : Bool) (stride vc : ℕ) (l : List ℕ) (register : v
       by true m on = takes n few on m e h
       by false m on = passes n few on m e h
 
-module _ (ins : Instruction) (scalar : ℕ) (s : State) (fields : Below ins) (count : length (s .elements) ≡ 1024) (alone : inOneStep ins ≡ true)
-    (few : s .control .vlr ≤ 64) where
+module _ (ins : Instruction) (scalar : ℕ) (b : Marked) (fields : Below ins) (count : length (b .state .elements) ≡ 1024) (alone : inOneStep ins ≡ true)
+    (few : b .state .control .vlr ≤ 64) where
   abbrev last : Run
-  last = iotaStep ins scalar (begun s)
+  last = iotaStep ins scalar (begun b)
 
-  ends : Counted ins scalar s (finished last)
-  unfolding iotaStep
+  ends : Counted ins scalar (b .state) (finished last .state)
+  unfolding iotaStep joined
   ends = record {
-    count = walked-length (s .control .vmr) (ins .mtf) (low scalar) (ins .vc .0) (s .control .vlr) (s .elements) ∙ count;
+    count = walked-length (b .state .control .vmr) (ins .mtf) (low scalar) (ins .vc .0) (b .state .control .vlr) (b .state .elements) ∙ count;
     vcr = end .vcr;
     counted = λ e h.
-        let t = turns (s .control .vmr) (ins .mtf) (low scalar) (ins .vc .0) (s .elements) (fields .vc) count (s .control .vlr) few e (rw (end .vcr) at h) in
+        let t = turns (b .state .control .vmr) (ins .mtf) (low scalar) (ins .vc .0) (b .state .elements) (fields .vc) count (b .state .control .vlr) few e (rw (end .vcr) at h) in
         (t .i, t .before, t .match, t .counted, t .gets);
-    others = λ r e a b past. walked-outside (s .control .vmr) (ins .mtf) (low scalar) (ins .vc .0) (s .control .vlr) (placeOf r e)
-        (outside r e a b (rw (end .vcr) at past)) (s .elements);
+    others = λ r e a k past. walked-outside (b .state .control .vmr) (ins .mtf) (low scalar) (ins .vc .0) (b .state .control .vlr) (placeOf r e)
+        (outside r e a k (rw (end .vcr) at past)) (b .state .elements);
     vlr = end .vlr;
     vmr = end .vmr;
-    vaer = end .vaer ∙ or-zero-r (s .control .vaer);
+    vaer = end .vaer ∙ or-zero-r (b .state .control .vaer);
     vpsr = end .vpsr;
   }
     where
-      end : RunEnd (last .progress)
-      end = ends-run (last .progress)
+      end : RunEnd last
+      end = ends-run last
 
-      outside : (r e : ℕ) → r < 16 → e < 64 → (r ≡ ins .vc .0 → matching (s .control .vmr) (ins .mtf) (s .control .vlr) ≤ e)
-          → Outside (ins .vc .0) (matching (s .control .vmr) (ins .mtf) (s .control .vlr)) (placeOf r e)
-      outside r e a b past f h q =
-          let short = matching-le (s .control .vmr) (ins .mtf) (s .control .vlr) in
+      outside : (r e : ℕ) → r < 16 → e < 64 → (r ≡ ins .vc .0 → matching (b .state .control .vmr) (ins .mtf) (b .state .control .vlr) ≤ e)
+          → Outside (ins .vc .0) (matching (b .state .control .vmr) (ins .mtf) (b .state .control .vlr)) (placeOf r e)
+      outside r e a k past f h q =
+          let short = matching-le (b .state .control .vmr) (ins .mtf) (b .state .control .vlr) in
           let same : r ≡ ins .vc .0 = omega (arith, few) in
           let from = past same in
           omega arith
 
-  one-step : stepsBelow 1 ins scalar (begun s) ≡ last
+  one-step : stepsBelow 1 ins scalar (begun b) ≡ last
   unfolding stepsBelow stepOf
   one-step = pick-true (inOneStep ins) _ _ alone
 
-  pub leaves : Counted ins scalar s (instructionDone ins scalar s)
+  pub leaves : Counted ins scalar (b .state) (instructionDone ins scalar b .state)
   unfolding instructionDone wholeOf
   leaves = rw (alone, one-step) ends

@@ -5,14 +5,15 @@ use mathlib.Core.Path.{_≡_, refl, sym, ap, ap₂, _∙_}
 use Prim.Native.Nat.{ℕ, zero, suc, _%_, _≤_, _<_}
 use native.Mathlib.Nat.{mod-lt}
 use native.Mathlib.Omega.{arith}
-use lib.Bits.{bitOr, or-zero-r}
+use lib.Bits.{bitOr, or-zero-l, or-zero-r}
 use lib.Dec.{ltb, eqb}
 use lib.ListN.{length, length-set, set}
 use Rattle.numbers.specs.Bits.{bit, withBit}
 use Rattle.numbers.specs.Choice.{pick}
 use Rattle.numbers.proofs.BitLaws.{bit-replaced, bit-kept, decEq}
 use Rattle.numbers.proofs.Tests.{pick-true, pick-false}
-use Rattle.state.specs.State.{State, placeOf, withVmr, vpsrInRange}
+use Rattle.state.specs.Marks.{Marked, alsoMarked, oneElement}
+use Rattle.state.specs.State.{State, state, placeOf, withVmr, vpsrInRange}
 use Rattle.state.specs.Elements.{at}
 use Rattle.opcodes.specs.declared.Instruction.{Instruction}
 use Rattle.opcodes.specs.Opcodes.{workAt, writesMask, ignoresMoe, readsVa, readsVb, inOneStep}
@@ -21,14 +22,13 @@ use Rattle.opcodes.specs.Masking.{operated}
 use Rattle.opcodes.specs.Working.{Below}
 use Rattle.element.specs.declared.Out.{Out}
 use Rattle.element.specs.Receives.{resultOf}
-use Rattle.machine.specs.declared.Gathered.{Gathered}
-use Rattle.machine.specs.Run.{Run, run, progress, noted, joined, begun, finished}
-use Rattle.machine.specs.Step.{received, registerBit, notes, written, recorded, worked, elementStep}
+use Rattle.machine.specs.Run.{Gathered, Added, Run, run, added, joined, begun, finished}
+use Rattle.machine.specs.Step.{received, registerBit, notes, written, wroteAt, adding, worked, elementStep}
 use Rattle.machine.specs.Instruction.{stepOf, stepsBelow, wholeOf, instructionDone}
-use Rattle.machine.proofs.Gather.{noted-both}
+use Rattle.machine.proofs.Gather.{joined-nothing, joined-twice}
 use Rattle.demands.proofs.Ending.{RunEnd, ends-run, halts}
 use Rattle.demands.proofs.Placing.{places-next}
-use Rattle.demands.proofs.Coming.{and-none, and-twice, come, come-not, come-first, come-before, come-now, come-same}
+use Rattle.demands.proofs.Coming.{and-none, and-twice, come, come-not, come-first, come-before, come-now, come-same, comeSet, come-bits}
 use Rattle.demands.specs.Two.{receives, recordedBelow, recordedBy, ElementByElement}
 
 -- what a work makes of the mask bit and the elements that it is handed
@@ -43,7 +43,11 @@ made-same : (ins : Instruction) (scalar : ℕ) {b b′ : Bool} {x x′ y y′ z 
     → made ins scalar b x y z ≡ made ins scalar b′ x′ y′ z′
 made-same ins scalar d e f g = cc
 
-module _ (ins : Instruction) (scalar : ℕ) (s : State) (fields : Below ins) where
+module _ (ins : Instruction) (scalar : ℕ) (first : Run) (fields : Below ins) where
+  -- the state that it begins with
+  abbrev s : State
+  s = state (first .elements) (first .control)
+
   abbrev on : ℕ → Bool
   on i = operated ins (s .control) i
 
@@ -61,26 +65,44 @@ module _ (ins : Instruction) (scalar : ℕ) (s : State) (fields : Below ins) whe
   unmarked : (n i : ℕ) → come on n i ≡ false → (writesMask ins && come on n i) ≡ false
   unmarked n i e = ap (λ (t : Bool). writesMask ins && t) e ∙ and-none (writesMask ins)
 
+  -- the elements of Vc that are written, and the set of those that the steps below n write
+  abbrev writtenOn : ℕ → Bool
+  writtenOn i = not (writesMask ins) && on i
+
+  abbrev markedBelow : ℕ → ℕ
+  markedBelow n = comeSet writtenOn n
+
+  -- what a step that is operated on marks
+  marks-one : (n : ℕ) → on n ≡ true → pick (writtenOn n) (oneElement n) 0 ≡ wroteAt ins n
+  marks-one n e = rw e (by (writesMask ins))
+    where
+      by : (m : Bool) → pick (not m && true) (oneElement n) 0 ≡ pick m 0 (oneElement n)
+      by true = refl
+      by false = refl
+
+  marks-no : (n : ℕ) → on n ≡ false → writtenOn n ≡ false
+  marks-no n e = ap (λ (t : Bool). not (writesMask ins) && t) e ∙ and-none (not (writesMask ins))
+
   -- after the steps below n
   record Upto (n : ℕ) (r : Run) : Type 0 where
     long : length (r .elements) ≡ 1024
     elements : (p i : ℕ) → p < 16 → i < 64 → at (r .elements) p i ≡ pick (wrote n p i) (value i) (at (s .elements) p i)
-    mask : (i : ℕ) → bit (r .progress .control .vmr) i ≡ pick (writesMask ins && come on n i) (eqb (value i % 2) 1) (bit (s .control .vmr) i)
-    vlr : r .progress .control .vlr ≡ s .control .vlr
-    vcr : r .progress .control .vcr ≡ s .control .vcr
-    vaer : r .progress .control .vaer ≡ s .control .vaer
-    vpsr : r .progress .control .vpsr ≡ s .control .vpsr
-    gathered : r .progress .gathered ≡ noted (recordedBelow n ins scalar s)
+    mask : (i : ℕ) → bit (r .control .vmr) i ≡ pick (writesMask ins && come on n i) (eqb (value i % 2) 1) (bit (s .control .vmr) i)
+    vlr : r .control .vlr ≡ s .control .vlr
+    vcr : r .control .vcr ≡ s .control .vcr
+    vaer : r .control .vaer ≡ s .control .vaer
+    vpsr : r .control .vpsr ≡ s .control .vpsr
+    gathered : r .gathered ≡ joined (first .gathered) (added (recordedBelow n ins scalar s) (ins .vc .0) (markedBelow n))
 
   -- ---- one step more
   module _ (n : ℕ) (small : n < 64) (r : Run) (u : Upto n r) where
     own-element : (p : ℕ) → p < 16 → at (r .elements) p n ≡ at (s .elements) p n
     own-element p h = u .elements p n h small ∙ pick-false (wrote n p n) _ _ (unwritten n p n (come-not on n))
 
-    own-bit : bit (r .progress .control .vmr) n ≡ bit (s .control .vmr) n
+    own-bit : bit (r .control .vmr) n ≡ bit (s .control .vmr) n
     own-bit = u .mask n ∙ pick-false (writesMask ins && come on n n) _ _ (unmarked n n (come-not on n))
 
-    same-on : operated ins (r .progress .control) n ≡ on n
+    same-on : operated ins (r .control) n ≡ on n
     unfolding operated
     same-on = ap₂ (λ (v : ℕ) (b : Bool). ltb n v && (not (ins .moe) || ignoresMoe ins || Bool·beq b (ins .mtf))) (u .vlr) own-bit
 
@@ -91,7 +113,7 @@ module _ (ins : Instruction) (scalar : ℕ) (s : State) (fields : Below ins) whe
 
     -- it is not operated on
     idle : on n ≡ false → Upto (suc n) r
-    unfolding recordedBelow
+    unfolding recordedBelow comeSet
     idle e = record {
       long = u .long;
       elements = λ p i a b. u .elements p i a b
@@ -102,8 +124,9 @@ module _ (ins : Instruction) (scalar : ℕ) (s : State) (fields : Below ins) whe
       vaer = u .vaer;
       vpsr = u .vpsr;
       gathered = u .gathered
-          ∙ sym (ap (λ (x : ℕ). noted (bitOr (recordedBelow n ins scalar s) x)) (pick-false (on n) _ 0 e)
-          ∙ ap noted (or-zero-r (recordedBelow n ins scalar s)));
+          ∙ sym (ap₂ (λ (x y : ℕ). joined (first .gathered) (added x (ins .vc .0) y))
+          (ap (bitOr (recordedBelow n ins scalar s)) (pick-false (on n) _ 0 e) ∙ or-zero-r (recordedBelow n ins scalar s))
+          (ap (bitOr (markedBelow n)) (pick-false (writtenOn n) _ 0 (marks-no n e)) ∙ or-zero-r (markedBelow n)));
     }
 
     -- it is
@@ -112,16 +135,21 @@ module _ (ins : Instruction) (scalar : ℕ) (s : State) (fields : Below ins) whe
       abbrev adds : ℕ
       adds = notes (registerBit (writesMask ins) (ins .vc .0)) (receives ins scalar s n .types)
 
-      joins : joined (r .progress .gathered) (noted adds) ≡ noted (recordedBelow (suc n) ins scalar s)
-      unfolding recordedBelow
-      joins =
-          ap (λ (g : Gathered). joined g (noted adds)) (u .gathered) ∙ noted-both (recordedBelow n ins scalar s) adds
-          ∙ sym (ap (λ (x : ℕ). noted (bitOr (recordedBelow n ins scalar s) x)) (pick-true (on n) adds 0 e))
+      abbrev joining : Added
+      joining = added adds (ins .vc .0) (wroteAt ins n)
 
-      marks : writesMask ins ≡ true
-          → Upto (suc n) (run (r .elements)
-          (progress (withVmr (r .progress .control) (withBit (r .progress .control .vmr) n (value n % 2))) (joined (r .progress .gathered) (noted adds))))
-      marks m = record {
+      joins : joined (r .gathered) joining ≡ joined (first .gathered) (added (recordedBelow (suc n) ins scalar s) (ins .vc .0) (markedBelow (suc n)))
+      unfolding recordedBelow comeSet
+      joins =
+          ap (λ (g : Gathered). joined g joining) (u .gathered)
+          ∙ joined-twice (first .gathered) (recordedBelow n ins scalar s) adds (ins .vc .0) (markedBelow n) (wroteAt ins n)
+          ∙ sym (ap₂ (λ (x y : ℕ). joined (first .gathered) (added x (ins .vc .0) y))
+          (ap (bitOr (recordedBelow n ins scalar s)) (pick-true (on n) adds 0 e))
+          (ap (bitOr (markedBelow n)) (marks-one n e)))
+
+      masks : writesMask ins ≡ true
+          → Upto (suc n) (run (r .elements) (withVmr (r .control) (withBit (r .control .vmr) n (value n % 2))) (joined (r .gathered) joining))
+      masks m = record {
         long = u .long;
         elements = λ p i a b. u .elements p i a b ∙ none n p i ∙ sym (none (suc n) p i);
         mask = λ i. at-bit i (decEq i n);
@@ -136,18 +164,17 @@ module _ (ins : Instruction) (scalar : ℕ) (s : State) (fields : Below ins) whe
           none k p i = rw m refl
 
           at-bit : (i : ℕ) → Dec (i ≡ n)
-              → bit (withBit (r .progress .control .vmr) n (value n % 2)) i
+              → bit (withBit (r .control .vmr) n (value n % 2)) i
               ≡ pick (writesMask ins && come on (suc n) i) (eqb (value i % 2) 1) (bit (s .control .vmr) i)
           at-bit i (yes h) =
-              rw h (bit-replaced (r .progress .control .vmr) n (value n % 2) (mod-lt (value n) (omega arith))
+              rw h (bit-replaced (r .control .vmr) n (value n % 2) (mod-lt (value n) (omega arith))
               ∙ sym (pick-true (writesMask ins && come on (suc n) n) _ _ (ap₂ (λ (a b : Bool). a && b) m (come-now on n ∙ e))))
           at-bit i (no h) =
-              bit-kept (r .progress .control .vmr) n (value n % 2) (mod-lt (value n) (omega arith)) i h ∙ u .mask i
+              bit-kept (r .control .vmr) n (value n % 2) (mod-lt (value n) (omega arith)) i h ∙ u .mask i
               ∙ ap (λ (t : Bool). pick (writesMask ins && t) (eqb (value i % 2) 1) (bit (s .control .vmr) i)) (sym (come-before on n i h))
 
       stores : writesMask ins ≡ false
-          → Upto (suc n) (run (set (r .elements) (placeOf (ins .vc .0) n) (value n))
-          (progress (r .progress .control) (joined (r .progress .gathered) (noted adds))))
+          → Upto (suc n) (run (set (r .elements) (placeOf (ins .vc .0) n) (value n)) (r .control) (joined (r .gathered) joining))
       stores m = record {
         long = length-set (r .elements) (placeOf (ins .vc .0) n) (value n) ∙ u .long;
         elements = λ p i a b.
@@ -174,11 +201,11 @@ module _ (ins : Instruction) (scalar : ℕ) (s : State) (fields : Below ins) whe
       works = rw same-received (by (writesMask ins) refl)
         where
           by : (m : Bool) → writesMask ins ≡ m
-              → Upto (suc n) (recorded adds
+              → Upto (suc n) (adding joining
               (pick m
-              (run (r .elements) (progress (withVmr (r .progress .control) (withBit (r .progress .control .vmr) n (value n % 2))) (r .progress .gathered)))
-              (run (set (r .elements) (placeOf (ins .vc .0) n) (value n)) (r .progress))))
-          by true m = marks m
+              (run (r .elements) (withVmr (r .control) (withBit (r .control .vmr) n (value n % 2))) (r .gathered))
+              (run (set (r .elements) (placeOf (ins .vc .0) n) (value n)) (r .control) (r .gathered))))
+          by true m = masks m
           by false m = stores m
 
     stepped : Upto (suc n) (elementStep ins scalar n r)
@@ -191,8 +218,8 @@ module _ (ins : Instruction) (scalar : ℕ) (s : State) (fields : Below ins) whe
 
   -- ---- all of them
   module _ (count : length (s .elements) ≡ 1024) (alone : inOneStep ins ≡ false) where
-    started : Upto 0 (begun s)
-    unfolding recordedBelow
+    started : Upto 0 first
+    unfolding recordedBelow comeSet
     started = record {
       long = count;
       elements = λ p i a b. sym (pick-false (wrote 0 p i) _ _ (unwritten 0 p i (come-first on i)));
@@ -201,18 +228,18 @@ module _ (ins : Instruction) (scalar : ℕ) (s : State) (fields : Below ins) whe
       vcr = refl;
       vaer = refl;
       vpsr = refl;
-      gathered = refl;
+      gathered = sym (joined-nothing (first .gathered) (ins .vc .0));
     }
 
-    upto : (n : ℕ) → n ≤ 64 → Upto n (stepsBelow n ins scalar (begun s))
+    upto : (n : ℕ) → n ≤ 64 → Upto n (stepsBelow n ins scalar first)
     unfolding stepsBelow stepOf
     upto zero h = started
-    upto (suc n) h = rw alone (stepped n (omega arith) (stepsBelow n ins scalar (begun s)) (upto n (omega arith)))
+    upto (suc n) h = rw alone (stepped n (omega arith) (stepsBelow n ins scalar first) (upto n (omega arith)))
 
-    -- the end of the run
-    module _ (few : s .control .vlr ≤ 64) (ranged : vpsrInRange (s .control .vpsr) ≡ true) where
+    -- all of the instruction
+    module _ (few : s .control .vlr ≤ 64) where
       abbrev last : Run
-      last = stepsBelow (s .control .vlr) ins scalar (begun s)
+      last = stepsBelow (s .control .vlr) ins scalar first
 
       all : Upto (s .control .vlr) last
       all = upto (s .control .vlr) few
@@ -221,23 +248,77 @@ module _ (ins : Instruction) (scalar : ℕ) (s : State) (fields : Below ins) whe
       unfolding operated
       every i = and-twice (ltb i (s .control .vlr)) _
 
-      ends : ElementByElement ins scalar s (finished last)
-      ends = record {
-        count = all .long;
-        elements = λ r i a b. all .elements r i a b
-            ∙ ap (λ (t : Bool). pick (not (writesMask ins) && eqb r (ins .vc .0) && t) (value i) (at (s .elements) r i)) (every i);
-        mask = λ i. ap (λ (v : ℕ). bit v i) (end .vmr) ∙ all .mask i
-            ∙ ap (λ (t : Bool). pick (writesMask ins && t) (eqb (value i % 2) 1) (bit (s .control .vmr) i)) (every i);
-        vlr = end .vlr ∙ all .vlr;
-        vcr = end .vcr ∙ all .vcr;
-        vaer = end .vaer ∙ ap₂ bitOr (all .vaer) (ap (λ (g : Gathered). g .vaer) (all .gathered));
-        vpsr = end .vpsr ∙ ap₂ (λ (g : Gathered) (v : ℕ). pick (g .recorded) (withBit (withBit v 0 0) 7 1) v) (all .gathered) (all .vpsr)
-            ∙ halts (s .control .vpsr) ranged (eqb (recordedBy ins scalar s) 0);
-      }
-        where
-          end : RunEnd (last .progress)
-          end = ends-run (last .progress)
+      is-last : wholeOf ins scalar first ≡ last
+      unfolding wholeOf
+      is-last = rw alone
 
-      pub leaves : ElementByElement ins scalar s (instructionDone ins scalar s)
-      unfolding instructionDone wholeOf
-      leaves = rw alone ends
+      -- its marks: of Vc those of the operated elements, unless it writes mask bits
+      pub marks-added : (i : ℕ) → bit (comeSet writtenOn (s .control .vlr)) i ≡ writtenOn i
+      unfolding operated
+      marks-added i = come-bits writtenOn (s .control .vlr) i ∙ by (not (writesMask ins)) (ltb i (s .control .vlr)) _
+        where
+          by : (m a t : Bool) → (a && (m && (a && t))) ≡ (m && (a && t))
+          by true true t = refl
+          by true false t = refl
+          by false true t = refl
+          by false false t = refl
+
+      -- and the elements that it does not write are as they were
+      pub whole-kept : (p i : ℕ) → p < 16 → i < 64 → (eqb p (ins .vc .0) && writtenOn i) ≡ false → at (wholeOf ins scalar first .elements) p i ≡ at (first .elements) p i
+      whole-kept p i a b e =
+          ap (λ (r : Run). at (r .elements) p i) is-last
+          ∙ all .elements p i a b
+          ∙ pick-false (wrote (s .control .vlr) p i) _ _
+          (ap (λ (t : Bool). not (writesMask ins) && eqb p (ins .vc .0) && t) (every i) ∙ turned (not (writesMask ins)) (eqb p (ins .vc .0)) (on i) ∙ e)
+        where
+          turned : (x y z : Bool) → (x && y && z) ≡ (y && (x && z))
+          turned true y z = refl
+          turned false true z = refl
+          turned false false z = refl
+
+      pub whole-long : length (wholeOf ins scalar first .elements) ≡ 1024
+      whole-long = ap (λ (r : Run). length (r .elements)) is-last ∙ all .long
+
+      pub whole-marks : wholeOf ins scalar first .gathered .marks ≡ alsoMarked (first .gathered .marks) (ins .vc .0) (comeSet writtenOn (s .control .vlr))
+      unfolding joined
+      whole-marks = ap (λ (r : Run). r .gathered .marks) is-last ∙ ap (λ (g : Gathered). g .marks) (all .gathered)
+
+-- ---- an instruction by itself
+module _ (ins : Instruction) (scalar : ℕ) (b : Marked) (fields : Below ins) (count : length (b .state .elements) ≡ 1024) (alone : inOneStep ins ≡ false)
+    (few : b .state .control .vlr ≤ 64) (ranged : vpsrInRange (b .state .control .vpsr) ≡ true) where
+  abbrev end-run : Run
+  end-run = last ins scalar (begun b) fields count alone few
+
+  reached : Upto ins scalar (begun b) fields (b .state .control .vlr) end-run
+  reached = all ins scalar (begun b) fields count alone few
+
+  notes-are : end-run .gathered .vaer ≡ recordedBy ins scalar (b .state)
+  unfolding joined
+  notes-are = ap (λ (g : Gathered). g .vaer) (reached .gathered) ∙ or-zero-l (recordedBy ins scalar (b .state))
+
+  recorded-is : end-run .gathered .recorded ≡ not (eqb (recordedBy ins scalar (b .state)) 0)
+  unfolding joined
+  recorded-is = ap (λ (g : Gathered). g .recorded) (reached .gathered)
+
+  ends : ElementByElement ins scalar (b .state) (finished end-run .state)
+  ends = record {
+    count = reached .long;
+    elements = λ r i a c. reached .elements r i a c
+        ∙ ap (λ (t : Bool). pick (not (writesMask ins) && eqb r (ins .vc .0) && t) (receives ins scalar (b .state) i .value) (at (b .state .elements) r i))
+        (every ins scalar (begun b) fields count alone few i);
+    mask = λ i. ap (λ (v : ℕ). bit v i) (end .vmr) ∙ reached .mask i
+        ∙ ap (λ (t : Bool). pick (writesMask ins && t) (eqb (receives ins scalar (b .state) i .value % 2) 1) (bit (b .state .control .vmr) i))
+        (every ins scalar (begun b) fields count alone few i);
+    vlr = end .vlr ∙ reached .vlr;
+    vcr = end .vcr ∙ reached .vcr;
+    vaer = end .vaer ∙ ap₂ bitOr (reached .vaer) notes-are;
+    vpsr = end .vpsr ∙ ap₂ (λ (t : Bool) (v : ℕ). pick t (withBit (withBit v 0 0) 7 1) v) recorded-is (reached .vpsr)
+        ∙ halts (b .state .control .vpsr) ranged (eqb (recordedBy ins scalar (b .state)) 0);
+  }
+    where
+      end : RunEnd end-run
+      end = ends-run end-run
+
+  pub leaves : ElementByElement ins scalar (b .state) (instructionDone ins scalar b .state)
+  unfolding instructionDone
+  leaves = rw (is-last ins scalar (begun b) fields count alone few) ends

@@ -7,21 +7,25 @@ use Rattle.numbers.specs.Bits.{withBit}
 use Rattle.numbers.specs.Choice.{pick}
 use Rattle.state.specs.State.{vpsrInRange}
 use Rattle.state.proofs.Ranges.{stopped as stopped-status}
-use Rattle.machine.specs.declared.Progress.{Progress}
-use Rattle.machine.specs.Run.{ended}
+use Rattle.state.specs.declared.Control.{Control}
+use Rattle.machine.specs.Run.{Run, ended, finished}
 
-pub record RunEnd (p : Progress) : Type 0 where
-  pub vlr : ended p .vlr ≡ p .control .vlr
-  pub vmr : ended p .vmr ≡ p .control .vmr
-  pub vcr : ended p .vcr ≡ p .control .vcr
-  pub vaer : ended p .vaer ≡ bitOr (p .control .vaer) (p .gathered .vaer)
-  pub vpsr : ended p .vpsr ≡ pick (p .gathered .recorded) (withBit (withBit (p .control .vpsr) 0 0) 7 1) (p .control .vpsr)
+-- the control record at its end
+abbrev pub endOf : Run → Control
+endOf r = finished r .state .control
 
-pub ends-run : (p : Progress) → RunEnd p
+pub record RunEnd (r : Run) : Type 0 where
+  pub vlr : endOf r .vlr ≡ r .control .vlr
+  pub vmr : endOf r .vmr ≡ r .control .vmr
+  pub vcr : endOf r .vcr ≡ r .control .vcr
+  pub vaer : endOf r .vaer ≡ bitOr (r .control .vaer) (r .gathered .vaer)
+  pub vpsr : endOf r .vpsr ≡ pick (r .gathered .recorded) (withBit (withBit (r .control .vpsr) 0 0) 7 1) (r .control .vpsr)
+
+pub ends-run : (r : Run) → RunEnd r
 unfolding ended
-ends-run p = by (p .gathered .recorded) refl
+ends-run r = by (r .gathered .recorded) refl
   where
-    by : (t : Bool) → p .gathered .recorded ≡ t → RunEnd p
+    by : (t : Bool) → r .gathered .recorded ≡ t → RunEnd r
     by true e = record { vlr = rw e refl; vmr = rw e refl; vcr = rw e refl; vaer = rw e refl; vpsr = rw e refl }
     by false e = record { vlr = rw e refl; vmr = rw e refl; vcr = rw e refl; vaer = rw e refl; vpsr = rw e refl }
 

@@ -9,7 +9,8 @@ use Rattle.state.specs.declared.Control.{Control}
 use Rattle.state.specs.declared.answer.Answer.{Answer}
 use Rattle.state.specs.declared.answer.Answer.the-variants.{Done}
 use Rattle.state.specs.Answer.{isDone}
-use Rattle.state.specs.Outcome.{Outcome, outcome, afterRefusal, refused, refusedState, refusedWindow}
+use Rattle.state.specs.Marks.{Marked}
+use Rattle.state.specs.Outcome.{Outcome, outcome, afterRefusal, refused, refusedState, refusedMarked, refusedWindow}
 use Rattle.state.specs.State.{State}
 
 pub record Keeps {A : Type 0} (o : Outcome A) (x : A) : Type 0 where
@@ -34,6 +35,10 @@ pub state-keeps : (a : Answer) (s : State) → Keeps (refusedState a s) s
 unfolding afterRefusal
 state-keeps a s = record { kept = λ e. refl }
 
-pub window-keeps : (a : Answer) (s : State) (w : List ℕ) → Keeps (refusedWindow a s w) (s, w)
+pub marked-keeps : (a : Answer) (b : Marked) → Keeps (refusedMarked a b) b
 unfolding afterRefusal
-window-keeps a s w = record { kept = λ e. refl }
+marked-keeps a b = record { kept = λ e. refl }
+
+pub window-keeps : (a : Answer) (b : Marked) (w : List ℕ) → Keeps (refusedWindow a b w) (b, w)
+unfolding afterRefusal
+window-keeps a b w = record { kept = λ e. refl }

@@ -13,8 +13,9 @@ use Rattle.state.specs.declared.answer.Answer.the-variants.{Done, ReservedOpcod
 use Rattle.state.specs.declared.answer.Answer.the-variants.{OutsideWindow, MemoryOpcode, QueueRefused, OrderRefused, BadFile, ValueRefused}
 use Rattle.state.specs.declared.answer.Answer.the-variants.{OutOfRange, NoSuchField}
 use Rattle.state.specs.Answer.{numberOf, numbers}
+use Rattle.state.specs.Marks.{Marked}
 use Rattle.state.specs.Outcome.{Outcome, given}
-use Rattle.state.specs.State.{State, state, inRange}
+use Rattle.state.specs.State.{inRange}
 use Rattle.state.specs.Elements.{at}
 use Rattle.control.specs.Moves.{vlrRead, vcrRead, vmrLowRead, vmrHighRead, vaerRead, vpsrRead}
 use Rattle.control.specs.Moves.{vlrWritten, vcrWritten, vmrLowWritten, vmrHighWritten, vpsrWritten}
@@ -23,15 +24,15 @@ use Rattle.execute.specs.Execute.{executedOf}
 use Rattle.queue.specs.Queue.{answerTo}
 use Rattle.queue.specs.Run.{queueRun, orderedRun}
 use Rattle.saved.specs.Save.{saving}
-use Rattle.saved.specs.Load.{loading}
+use Rattle.saved.specs.Load.{loadingMarked}
 use Rattle.panel.specs.Panel.{isField, fieldAnswer, kindShown, bitsShown}
 use Rattle.listing.specs.Text.{stateListed, fileListed, answerListed}
 use Rattle.running.specs.Runner.{inputPrinted}
-use Rattle.kujawian.specs.Face.{controlOf, controlInto, stateOf, left, executed, fieldRead}
+use Rattle.kujawian.specs.Face.{controlOf, controlInto, left, executed, fieldRead}
 use Rattle.kujawian.proofs.Stored.{stored-back}
-use Rattle.demands.specs.Calls.{Call, Lent, lent, readOff, intoControl, intoState, intoWindow, intoBytes, intoReading, called}
+use Rattle.demands.specs.Calls.{Call, Lent, lent, lentState, lentMarked, readOff, intoControl, intoState, intoWindow, intoBytes, intoReading, called}
 use Rattle.demands.specs.Calls.{readVlr, readVcr, readVmrLow, readVmrHigh, readVaer, readVpsr, writeVlr, writeVcr, writeVmrLow, writeVmrHigh, writeVpsr}
-use Rattle.demands.specs.Calls.{execute, run, runOrder, save, load, reading, listState, listFile, listAnswer, printRun, decode}
+use Rattle.demands.specs.Calls.{execute, run, runOrder, save, load, clearMarks, reading, listState, listFile, listAnswer, printRun, decode}
 use Rattle.demands.specs.One.{DemandOne}
 use Rattle.demands.proofs.Keeping.{Keeps}
 use Rattle.demands.proofs.CallsKeep.{write-keeps, execute-keeps, run-keeps, order-keeps, save-keeps, load-keeps, print-keeps, list-keeps}
@@ -65,35 +66,35 @@ module _ (l : Lent) where
   numbersOnly : (o : Outcome Control) → Keeps o (controlOf (l .control)) → Right l (intoControl l (given o))
   numbersOnly o k = record {
     number = numbered (o .answer);
-    kept = λ n. ap (λ (c : List ℕ). lent (l .elements) c (l .bytes) (l .kindRead) (l .bits))
+    kept = λ n. ap (λ (c : List ℕ). lent (l .elements) c (l .marks) (l .bytes) (l .kindRead) (l .bits))
         (ap (controlInto (l .control)) (k .kept (ne-eqb (numberOf (o .answer)) 0 n)) ∙ stored-back (l .control));
   }
 
-  whole : (o : Outcome State) → Keeps o (stateOf (l .elements) (l .control)) → Right l (intoState l (left (l .control) o))
+  whole : (o : Outcome Marked) → Keeps o (lentMarked l) → Right l (intoState l (left (l .control) o))
   unfolding left
   whole o k = record {
     number = numbered (o .answer);
-    kept = λ n. ap (λ (s : State). lent (s .elements) (controlInto (l .control) (s .control)) (l .bytes) (l .kindRead) (l .bits))
+    kept = λ n. ap (λ (b : Marked). lent (b .state .elements) (controlInto (l .control) (b .state .control)) (b .marks) (l .bytes) (l .kindRead) (l .bits))
         (k .kept (ne-eqb (numberOf (o .answer)) 0 n))
-        ∙ ap (λ (c : List ℕ). lent (l .elements) c (l .bytes) (l .kindRead) (l .bits)) (stored-back (l .control));
+        ∙ ap (λ (c : List ℕ). lent (l .elements) c (l .marks) (l .bytes) (l .kindRead) (l .bits)) (stored-back (l .control));
   }
 
-  windowed : (o : Outcome (State × List ℕ)) → Keeps o (stateOf (l .elements) (l .control), l .bytes) → Right l (intoWindow l (executed (l .control) o))
+  windowed : (o : Outcome (Marked × List ℕ)) → Keeps o (lentMarked l, l .bytes) → Right l (intoWindow l (executed (l .control) o))
   unfolding executed
   windowed o k = record {
     number = numbered (o .answer);
-    kept = λ n. ap (λ (x : State × List ℕ). lent (x .0 .elements) (controlInto (l .control) (x .0 .control)) (x .1) (l .kindRead) (l .bits))
+    kept = λ n. ap (λ (x : Marked × List ℕ). lent (x .0 .state .elements) (controlInto (l .control) (x .0 .state .control)) (x .0 .marks) (x .1) (l .kindRead) (l .bits))
         (k .kept (ne-eqb (numberOf (o .answer)) 0 n))
-        ∙ ap (λ (c : List ℕ). lent (l .elements) c (l .bytes) (l .kindRead) (l .bits)) (stored-back (l .control));
+        ∙ ap (λ (c : List ℕ). lent (l .elements) c (l .marks) (l .bytes) (l .kindRead) (l .bits)) (stored-back (l .control));
   }
 
   bytes : (o : Outcome (List ℕ)) → Keeps o (l .bytes) → Right l (intoBytes l o)
   bytes o k = record {
     number = numbered (o .answer);
-    kept = λ n. ap (λ (b : List ℕ). lent (l .elements) (l .control) b (l .kindRead) (l .bits)) (k .kept (ne-eqb (numberOf (o .answer)) 0 n));
+    kept = λ n. ap (λ (b : List ℕ). lent (l .elements) (l .control) (l .marks) b (l .kindRead) (l .bits)) (k .kept (ne-eqb (numberOf (o .answer)) 0 n));
   }
 
-  field : (register element kind : ℕ) → Right l (intoReading l (fieldRead (stateOf (l .elements) (l .control)) register element kind (l .kindRead) (l .bits)))
+  field : (register element kind : ℕ) → Right l (intoReading l (fieldRead (lentState l) register element kind (l .kindRead) (l .bits)))
   unfolding fieldRead
   field register element kind = by (inRange (controlOf (l .control)) && isField register element kind)
     where
@@ -117,14 +118,15 @@ every (writeVmrLow value) l = numbersOnly l (vmrLowWritten (controlOf (l .contro
 every (writeVmrHigh value) l = numbersOnly l (vmrHighWritten (controlOf (l .control)) value) (write-keeps _ _ _ _)
 every (writeVpsr value) l = numbersOnly l (vpsrWritten (controlOf (l .control)) value) (write-keeps _ _ _ _)
 every (execute opcode cntrl scalar base stride origin) l =
-    windowed l (executedOf (stateOf (l .elements) (l .control)) opcode cntrl scalar base stride (l .bytes) origin)
-    (execute-keeps (stateOf (l .elements) (l .control)) opcode cntrl scalar base stride (l .bytes) origin)
-every (run q) l = whole l (queueRun q (stateOf (l .elements) (l .control))) (run-keeps q (stateOf (l .elements) (l .control)))
-every (runOrder q list) l = whole l (orderedRun q list (stateOf (l .elements) (l .control))) (order-keeps q list (stateOf (l .elements) (l .control)))
-every save l = bytes l (saving (stateOf (l .elements) (l .control)) (l .bytes)) (save-keeps (stateOf (l .elements) (l .control)) (l .bytes))
-every (load file) l = whole l (loading file (stateOf (l .elements) (l .control))) (load-keeps file (stateOf (l .elements) (l .control)))
+    windowed l (executedOf (lentMarked l) opcode cntrl scalar base stride (l .bytes) origin)
+    (execute-keeps (lentMarked l) opcode cntrl scalar base stride (l .bytes) origin)
+every (run q) l = whole l (queueRun q (lentMarked l)) (run-keeps q (lentMarked l))
+every (runOrder q list) l = whole l (orderedRun q list (lentMarked l)) (order-keeps q list (lentMarked l))
+every save l = bytes l (saving (lentState l) (l .bytes)) (save-keeps (lentState l) (l .bytes))
+every (load file) l = whole l (loadingMarked file (lentMarked l)) (load-keeps file (lentMarked l))
+every clearMarks l = record { number = omega arith; kept = λ n. absurd (n refl) }
 every (reading register element kind) l = field l register element kind
-every listState l = bytes l (stateListed (stateOf (l .elements) (l .control)) (l .bytes)) (list-keeps (stateOf (l .elements) (l .control)) (l .bytes))
+every listState l = bytes l (stateListed (lentState l) (l .bytes)) (list-keeps (lentState l) (l .bytes))
 every (listFile file) l = bytes l (fileListed file (l .bytes)) (print-keeps _ _ (l .bytes))
 every (listAnswer answer) l = bytes l (answerListed answer (l .bytes)) (print-keeps _ _ (l .bytes))
 every (printRun input) l = bytes l (inputPrinted input (l .bytes)) (print-keeps _ _ (l .bytes))

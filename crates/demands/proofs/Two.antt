@@ -13,8 +13,9 @@ use Rattle.numbers.proofs.Tests.{true-not-false, and-left, pick-true, pick-fals
 use Rattle.state.specs.declared.Control.{Control}
 use Rattle.state.specs.declared.answer.Answer.the-variants.{Done, OutOfRange}
 use Rattle.state.specs.Answer.{isDone}
+use Rattle.state.specs.Marks.{Marked, marked}
 use Rattle.state.specs.Outcome.{Outcome, outcome, refusedWindow}
-use Rattle.state.specs.State.{State, state, inRange, enabled}
+use Rattle.state.specs.State.{state, inRange, enabled}
 use Rattle.state.specs.Elements.{at}
 use Rattle.state.proofs.Ranges.{Ranged, ranged}
 use Rattle.opcodes.specs.declared.Instruction.{Instruction}
@@ -51,75 +52,76 @@ unfolding operated
 every ins c i = and-twice (ltb i (c .vlr)) _
 
 -- ---- a memory instruction
-module _ (ins : Instruction) (base stride : ℕ) (s : State) (origin : ℕ) (w : List ℕ) where
+module _ (ins : Instruction) (base stride : ℕ) (b : Marked) (origin : ℕ) (w : List ℕ) where
   -- that was done
-  module _ (done : isDone (movedOf s ins base stride w origin .answer) ≡ true) where
-    abbrev told : memory.Done s ins base stride w origin
-    told = memory.moved-done s ins base stride w origin done
+  module _ (done : isDone (movedOf b ins base stride w origin .answer) ≡ true) where
+    abbrev told : memory.Done b ins base stride w origin
+    told = memory.moved-done b ins base stride w origin done
 
-    inside : (i : ℕ) → operated ins (s .control) i ≡ true → Inside ins base stride s origin (length w) i
+    inside : (i : ℕ) → operated ins (b .state .control) i ≡ true → Inside ins base stride (b .state) origin (length w) i
     inside i e =
-        let f = told .fit i (below ins (s .control) i e) e in
+        let f = told .fit i (below ins (b .state .control) i e) e in
         record { aligned = f .aligned; from = f .from; to = let a = f .from in let b = f .to in omega arith }
 
     -- it moved elements, or bytes
-    abbrev moves : Bool → List ℕ × List ℕ
+    abbrev moves : Bool → List ℕ × List ℕ × List ℕ
     moves store =
-        movesBy store (isQuadword (ins .work)) (ins .vc .0) (operated ins (s .control)) (placeIn ins base stride s origin) (s .control .vlr) (s .elements) w
+        movesBy store (isQuadword (ins .work)) (ins .vc .0) (operated ins (b .state .control)) (placeIn ins base stride (b .state) origin) (b .state .control .vlr)
+        (b .state .elements) (b .marks) w
 
-    moved : (store : Bool) → isStore (ins .work) ≡ store → movedOf s ins base stride w origin .left ≡ (state (moves store .0) (s .control), moves store .1)
+    moved : (store : Bool) → isStore (ins .work) ≡ store → movedOf b ins base stride w origin .left ≡ (marked (state (moves store .0) (b .state .control)) (moves store .1), moves store .2)
     moved store e = rw (← e) (told .moved)
 
-    loads : ins .vc .0 < 16 → length (s .elements) ≡ 1024 → s .control .vlr ≤ 64 → isStore (ins .work) ≡ false
-        → Loaded ins base stride s origin w (movedOf s ins base stride w origin .left .1) (movedOf s ins base stride w origin .left .0)
+    loads : ins .vc .0 < 16 → length (b .state .elements) ≡ 1024 → b .state .control .vlr ≤ 64 → isStore (ins .work) ≡ false
+        → Loaded ins base stride (b .state) origin w (movedOf b ins base stride w origin .left .1) (movedOf b ins base stride w origin .left .0 .state)
     loads register count few e =
         let m = moved false e in
         let gets : ℕ → ℕ → ℕ =
-        λ r i. received (isQuadword (ins .work)) (at (s .elements) r i) (numberAt (bytesEach ins) w (placeIn ins base stride s origin i)) in
-        let u = loaded (isQuadword (ins .work)) (ins .vc .0) (operated ins (s .control)) (placeIn ins base stride s origin) w (s .elements) register count
-        (s .control .vlr) few in
+        λ r i. received (isQuadword (ins .work)) (at (b .state .elements) r i) (numberAt (bytesEach ins) w (placeIn ins base stride (b .state) origin i)) in
+        let u = loaded (isQuadword (ins .work)) (ins .vc .0) (operated ins (b .state .control)) (placeIn ins base stride (b .state) origin) w (b .state .elements) register count
+        (b .state .control .vlr) few in
         record {
-          count = ap (λ (x : State × List ℕ). length (x .0 .elements)) m ∙ u .long;
-          elements = λ r i a b. ap (λ (x : State × List ℕ). at (x .0 .elements) r i) m ∙ u .elements r i a b
-              ∙ ap (λ (t : Bool). pick (eqb r (ins .vc .0) && t) (gets r i) (at (s .elements) r i)) (every ins (s .control) i);
-          control = ap (λ (x : State × List ℕ). x .0 .control) m;
-          window = ap (λ (x : State × List ℕ). x .1) m;
+          count = ap (λ (x : Marked × List ℕ). length (x .0 .state .elements)) m ∙ u .long;
+          elements = λ r i a k. ap (λ (x : Marked × List ℕ). at (x .0 .state .elements) r i) m ∙ u .elements r i a k
+              ∙ ap (λ (t : Bool). pick (eqb r (ins .vc .0) && t) (gets r i) (at (b .state .elements) r i)) (every ins (b .state .control) i);
+          control = ap (λ (x : Marked × List ℕ). x .0 .state .control) m;
+          window = ap (λ (x : Marked × List ℕ). x .1) m;
         }
 
-    fit : (i : ℕ) → i < s .control .vlr → operated ins (s .control) i ≡ true → placeIn ins base stride s origin i + bytesEach ins ≤ length w
+    fit : (i : ℕ) → i < b .state .control .vlr → operated ins (b .state .control) i ≡ true → placeIn ins base stride (b .state) origin i + bytesEach ins ≤ length w
     fit i h e = inside i e .to
 
     stores : isStore (ins .work) ≡ true
-        → Stored ins base stride s origin w (movedOf s ins base stride w origin .left .1) (movedOf s ins base stride w origin .left .0)
+        → Stored ins base stride (b .state) origin w (movedOf b ins base stride w origin .left .1) (movedOf b ins base stride w origin .left .0 .state)
     stores e =
         let m = moved true e in
         let q = isQuadword (ins .work) in
         record {
-          bytes = λ i k c h later. ap (λ (x : State × List ℕ). getD (x .1) (placeIn ins base stride s origin i + k) 0) m
-              ∙ stored-bytes q (ins .vc .0) (operated ins (s .control)) (placeIn ins base stride s origin) w (s .elements) (s .control .vlr) fit i k
-              (below ins (s .control) i c) c h (λ j a b. later j a);
-          others = λ k misses. ap (λ (x : State × List ℕ). getD (x .1) k 0) m
-              ∙ stored-others q (ins .vc .0) (operated ins (s .control)) (placeIn ins base stride s origin) w (s .elements) (s .control .vlr) fit k
+          bytes = λ i k c h later. ap (λ (x : Marked × List ℕ). getD (x .1) (placeIn ins base stride (b .state) origin i + k) 0) m
+              ∙ stored-bytes q (ins .vc .0) (operated ins (b .state .control)) (placeIn ins base stride (b .state) origin) w (b .state .elements) (b .state .control .vlr) fit i k
+              (below ins (b .state .control) i c) c h (λ j a _. later j a);
+          others = λ k misses. ap (λ (x : Marked × List ℕ). getD (x .1) k 0) m
+              ∙ stored-others q (ins .vc .0) (operated ins (b .state .control)) (placeIn ins base stride (b .state) origin) w (b .state .elements) (b .state .control .vlr) fit k
               (λ i h. misses i);
-          length = ap (λ (x : State × List ℕ). length (x .1)) m
-              ∙ stored-length q (ins .vc .0) (operated ins (s .control)) (placeIn ins base stride s origin) w (s .elements) (s .control .vlr) fit;
-          state = ap (λ (x : State × List ℕ). x .0) m;
+          length = ap (λ (x : Marked × List ℕ). length (x .1)) m
+              ∙ stored-length q (ins .vc .0) (operated ins (b .state .control)) (placeIn ins base stride (b .state) origin) w (b .state .elements) (b .state .control .vlr) fit;
+          state = ap (λ (x : Marked × List ℕ). x .0 .state) m;
         }
 
   -- that has to be done
-  does : allowed (length w) origin ≡ true → ((i : ℕ) → operated ins (s .control) i ≡ true → Inside ins base stride s origin (length w) i)
-      → movedOf s ins base stride w origin .answer ≡ Done 0
+  does : allowed (length w) origin ≡ true → ((i : ℕ) → operated ins (b .state .control) i ≡ true → Inside ins base stride (b .state) origin (length w) i)
+      → movedOf b ins base stride w origin .answer ≡ Done 0
   does window inside =
-      memory.done-if s ins base stride w origin window
+      memory.done-if b ins base stride w origin window
       (λ i h c. let f = inside i c in record { aligned = f .aligned; from = f .from; to = let a = f .from in let b = f .to in omega arith })
 
 -- ---- the call
-module _ (s : State) (opcode cntrl scalar base stride : ℕ) (w : List ℕ) (origin : ℕ) where
-  abbrev executed : Outcome (State × List ℕ)
-  executed = executedOf s opcode cntrl scalar base stride w origin
+module _ (b : Marked) (opcode cntrl scalar base stride : ℕ) (w : List ℕ) (origin : ℕ) where
+  abbrev executed : Outcome (Marked × List ℕ)
+  executed = executedOf b opcode cntrl scalar base stride w origin
 
   abbrev Accepted-as : Instruction → Type 0
-  Accepted-as ins = Accepts s opcode cntrl base stride w origin ins
+  Accepted-as ins = Accepts (b .state) opcode cntrl base stride w origin ins
 
   -- ---- what is done was accepted
   off : (ins : Instruction) → decodedOf false false 0 opcode cntrl ≡ Accepted ins → ⊥
@@ -130,20 +132,20 @@ module _ (s : State) (opcode cntrl scalar base stride : ℕ) (w : List ℕ) (ori
       by entry.Reserved h = let z : _≡_ {A = ℕ} 0 1 = cc in omega arith
       by (entry.Accepted w s) h = let z : _≡_ {A = ℕ} 0 1 = cc in omega arith
 
-  module _ (ranged : inRange (s .control) ≡ true) where
-    carried-accepts : (ins : Instruction) → enabled (s .control) ≡ true → decodedOf true false 0 opcode cntrl ≡ Accepted ins
-        → isDone (carriedOut ins s scalar base stride w origin .answer) ≡ true → Accepted-as ins
+  module _ (ranged : inRange (b .state .control) ≡ true) where
+    carried-accepts : (ins : Instruction) → enabled (b .state .control) ≡ true → decodedOf true false 0 opcode cntrl ≡ Accepted ins
+        → isDone (carriedOut ins b scalar base stride w origin .answer) ≡ true → Accepted-as ins
     unfolding carriedOut
     carried-accepts ins on says done = by (isMemory (ins .work)) refl done
       where
         by : (t : Bool) → isMemory (ins .work) ≡ t
-            → isDone (pick t (movedOf s ins base stride w origin) (outcome (Done 0) (instructionDone ins scalar s, w)) .answer) ≡ true → Accepted-as ins
+            → isDone (pick t (movedOf b ins base stride w origin) (outcome (Done 0) (instructionDone ins scalar b, w)) .answer) ≡ true → Accepted-as ins
         by true m done = record {
           ranged = ranged;
           on = on;
           says = says;
-          window = λ _. memory.moved-done s ins base stride w origin done .window;
-          inside = λ _. inside ins base stride s origin w done;
+          window = λ _. memory.moved-done b ins base stride w origin done .window;
+          inside = λ _. inside ins base stride b origin w done;
         }
         by false m done = record {
           ranged = ranged;
@@ -153,60 +155,60 @@ module _ (s : State) (opcode cntrl scalar base stride : ℕ) (w : List ℕ) (ori
           inside = λ n. absurd (true-not-false (sym m ∙ n));
         }
 
-    decoded-accepts : (e : Bool) → enabled (s .control) ≡ e → (d : Decoded) → decodedOf e false 0 opcode cntrl ≡ d
-        → isDone (asDecoded d s scalar base stride w origin .answer) ≡ true → (ins : Instruction) × Accepted-as ins
+    decoded-accepts : (e : Bool) → enabled (b .state .control) ≡ e → (d : Decoded) → decodedOf e false 0 opcode cntrl ≡ d
+        → isDone (asDecoded d b scalar base stride w origin .answer) ≡ true → (ins : Instruction) × Accepted-as ins
     decoded-accepts e on (Refused a) is done = absurd (true-not-false (sym (refusal e false 0 opcode cntrl a is) ∙ done))
     decoded-accepts true on (Accepted ins) is done = (ins, carried-accepts ins on is done)
     decoded-accepts false on (Accepted ins) is done = absurd (off ins is)
 
-  abbrev made : Outcome (State × List ℕ)
-  made = asDecoded (decodedOf (enabled (s .control)) false 0 opcode cntrl) s scalar base stride w origin
+  abbrev made : Outcome (Marked × List ℕ)
+  made = asDecoded (decodedOf (enabled (b .state .control)) false 0 opcode cntrl) b scalar base stride w origin
 
   was-accepted : isDone (executed .answer) ≡ true → (ins : Instruction) × Accepted-as ins
   unfolding executedOf
-  was-accepted = by (inRange (s .control)) refl
+  was-accepted = by (inRange (b .state .control)) refl
     where
-      by : (t : Bool) → inRange (s .control) ≡ t → isDone (pick t made (refusedWindow OutOfRange s w) .answer) ≡ true → (ins : Instruction) × Accepted-as ins
-      by true r done = decoded-accepts r (enabled (s .control)) refl (decodedOf (enabled (s .control)) false 0 opcode cntrl) refl done
+      by : (t : Bool) → inRange (b .state .control) ≡ t → isDone (pick t made (refusedWindow OutOfRange b w) .answer) ≡ true → (ins : Instruction) × Accepted-as ins
+      by true r done = decoded-accepts r (enabled (b .state .control)) refl (decodedOf (enabled (b .state .control)) false 0 opcode cntrl) refl done
       by false r done = let z : _≡_ {A = ℕ} 0 1 = cc in absurd (omega arith)
 
   -- ---- what is accepted is done
   module _ (ins : Instruction) (a : Accepted-as ins) where
-    carries : executed ≡ carriedOut ins s scalar base stride w origin
+    carries : executed ≡ carriedOut ins b scalar base stride w origin
     unfolding executedOf
     carries =
-        pick-true (inRange (s .control)) made (refusedWindow OutOfRange s w) (a .ranged)
-        ∙ ap (λ (e : Bool). asDecoded (decodedOf e false 0 opcode cntrl) s scalar base stride w origin) (a .on)
-        ∙ ap (λ (d : Decoded). asDecoded d s scalar base stride w origin) (a .says)
+        pick-true (inRange (b .state .control)) made (refusedWindow OutOfRange b w) (a .ranged)
+        ∙ ap (λ (e : Bool). asDecoded (decodedOf e false 0 opcode cntrl) b scalar base stride w origin) (a .on)
+        ∙ ap (λ (d : Decoded). asDecoded d b scalar base stride w origin) (a .says)
 
     -- a memory instruction moves; a register instruction is done
-    moves-memory : isMemory (ins .work) ≡ true → executed ≡ movedOf s ins base stride w origin
+    moves-memory : isMemory (ins .work) ≡ true → executed ≡ movedOf b ins base stride w origin
     unfolding carriedOut
-    moves-memory m = carries ∙ pick-true (isMemory (ins .work)) _ (outcome (Done 0) (instructionDone ins scalar s, w)) m
+    moves-memory m = carries ∙ pick-true (isMemory (ins .work)) _ (outcome (Done 0) (instructionDone ins scalar b, w)) m
 
-    is-register : isMemory (ins .work) ≡ false → executed ≡ outcome (Done 0) (instructionDone ins scalar s, w)
+    is-register : isMemory (ins .work) ≡ false → executed ≡ outcome (Done 0) (instructionDone ins scalar b, w)
     unfolding carriedOut
-    is-register m = carries ∙ pick-false (isMemory (ins .work)) (movedOf s ins base stride w origin) _ m
+    is-register m = carries ∙ pick-false (isMemory (ins .work)) (movedOf b ins base stride w origin) _ m
 
-    moves-done : isMemory (ins .work) ≡ true → movedOf s ins base stride w origin .answer ≡ Done 0
-    moves-done m = does ins base stride s origin w (a .window m) (a .inside m)
+    moves-done : isMemory (ins .work) ≡ true → movedOf b ins base stride w origin .answer ≡ Done 0
+    moves-done m = does ins base stride b origin w (a .window m) (a .inside m)
 
     gives : executed .answer ≡ Done 0
     gives = by (isMemory (ins .work)) refl
       where
         by : (t : Bool) → isMemory (ins .work) ≡ t → executed .answer ≡ Done 0
-        by true m = ap (λ (o : Outcome (State × List ℕ)). o .answer) (moves-memory m) ∙ moves-done m
-        by false m = ap (λ (o : Outcome (State × List ℕ)). o .answer) (is-register m)
+        by true m = ap (λ (o : Outcome (Marked × List ℕ)). o .answer) (moves-memory m) ∙ moves-done m
+        by false m = ap (λ (o : Outcome (Marked × List ℕ)). o .answer) (is-register m)
 
-    module _ (count : length (s .elements) ≡ 1024) where
+    module _ (count : length (b .state .elements) ≡ 1024) where
       fields : Below ins
       fields = let p = passed true false 0 opcode cntrl ins (a .says) in record { va = p .va-below; vb = p .vb-below; vc = p .vc-below }
 
-      range : Ranged (s .control)
-      range = ranged (s .control) (a .ranged)
+      range : Ranged (b .state .control)
+      range = ranged (b .state .control) (a .ranged)
 
-      abbrev Left : Outcome (State × List ℕ) → Type 0
-      Left o = Leaves ins scalar base stride s w origin (o .left .0) (o .left .1)
+      abbrev Left : Outcome (Marked × List ℕ) → Type 0
+      Left o = Leaves ins scalar base stride (b .state) w origin (o .left .0 .state) (o .left .1)
 
       leaves : Left executed
       leaves = by (isMemory (ins .work)) refl
@@ -215,25 +217,25 @@ module _ (s : State) (opcode cntrl scalar base stride : ℕ) (w : List ℕ) (ori
           by true m = subst Left (sym (moves-memory m)) record {
             elementwise = λ n. absurd (true-not-false (sym n ∙ m));
             iota = λ n. absurd (true-not-false (sym n ∙ m));
-            loads = λ _ e. loads ins base stride s origin w (ap isDone (moves-done m)) (fields .vc) count (range .vlr) e;
-            stores = λ _ e. stores ins base stride s origin w (ap isDone (moves-done m)) e;
+            loads = λ _ e. loads ins base stride b origin w (ap isDone (moves-done m)) (fields .vc) count (range .vlr) e;
+            stores = λ _ e. stores ins base stride b origin w (ap isDone (moves-done m)) e;
           }
           by false m = subst Left (sym (is-register m)) record {
-            elementwise = λ _ e. (elementwise.leaves ins scalar s fields count e (range .vlr) (range .vpsr), refl);
-            iota = λ _ e. (counting.leaves ins scalar s fields count e (range .vlr), refl);
+            elementwise = λ _ e. (elementwise.leaves ins scalar b fields count e (range .vlr) (range .vpsr), refl);
+            iota = λ _ e. (counting.leaves ins scalar b fields count e (range .vlr), refl);
             loads = λ n. absurd (true-not-false (sym m ∙ n));
             stores = λ n. absurd (true-not-false (sym m ∙ n));
           }
 
 -- any state, opcode, control word, scalar, base, stride, window and origin
-instruction : (s : State) (opcode cntrl scalar base stride : ℕ) (w : List ℕ) (origin : ℕ) → OneInstruction s opcode cntrl scalar base stride w origin
-instruction s opcode cntrl scalar base stride w origin = record {
+instruction : (b : Marked) (opcode cntrl scalar base stride : ℕ) (w : List ℕ) (origin : ℕ) → OneInstruction b opcode cntrl scalar base stride w origin
+instruction b opcode cntrl scalar base stride w origin = record {
   done = (
-    was-accepted s opcode cntrl scalar base stride w origin,
-    λ x. ap isDone (gives s opcode cntrl scalar base stride w origin (x .0) (x .1)),
+    was-accepted b opcode cntrl scalar base stride w origin,
+    λ x. ap isDone (gives b opcode cntrl scalar base stride w origin (x .0) (x .1)),
   );
-  gives = gives s opcode cntrl scalar base stride w origin;
-  leaves = λ count ins a. leaves s opcode cntrl scalar base stride w origin ins a count;
+  gives = gives b opcode cntrl scalar base stride w origin;
+  leaves = λ count ins a. leaves b opcode cntrl scalar base stride w origin ins a count;
 }
 
 -- DEMAND 2

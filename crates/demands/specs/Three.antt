@@ -10,43 +10,44 @@ use Rattle.numbers.specs.Choice.{pick}
 use Rattle.state.specs.declared.answer.Answer.the-variants.{Done, Disabled}
 use Rattle.state.specs.Answer.{numberOf, besideOf, isDone}
 use Rattle.state.specs.Outcome.{outcome}
-use Rattle.state.specs.State.{State, inRange, enabled}
+use Rattle.state.specs.Marks.{Marked}
+use Rattle.state.specs.State.{inRange, enabled}
 use Rattle.machine.specs.Run.{begun}
 use Rattle.touch.specs.Parts.{Queue, queue, size}
 use Rattle.queue.specs.Queue.{wellFormed, acceptance, straight}
 use Rattle.queue.specs.Run.{ranThrough, queueRun, orderedRun}
 use Rattle.queue.specs.Claim.{Claim}
 
--- any list: permitted exactly when it is proper, and then the straight run's whole state; else 9, the position, and nothing has changed
-abbrev pub DemandThree : Queue → State → Type 0
-DemandThree q s =
-    isDone (acceptance (s .control) q) ≡ true
-    → (list : List ℕ) → Claim q list s (numberOf (orderedRun q list s .answer)) (besideOf (orderedRun q list s .answer)) (orderedRun q list s .left)
+-- any list: permitted exactly when it is proper, and then the straight run's whole state and marks; else 9, the position, and nothing has changed
+abbrev pub DemandThree : Queue → Marked → Type 0
+DemandThree q b =
+    isDone (acceptance (b .state .control) q) ≡ true
+    → (list : List ℕ) → Claim q list b (numberOf (orderedRun q list b .answer)) (besideOf (orderedRun q list b .answer)) (orderedRun q list b .left)
 
 -- ---- the end of a queue's run
 -- what VAER gets in it
-abbrev pub gathers : Queue → State → ℕ
-gathers q s = straight q (size q) (begun s) .progress .gathered .vaer
+abbrev pub gathers : Queue → Marked → ℕ
+gathers q b = straight q (size q) (begun b) .gathered .vaer
 
-pub record Ends (q : Queue) (s : State) : Type 0 where
+pub record Ends (q : Queue) (b : Marked) : Type 0 where
   -- VAER is the or of what was there and of what its steps recorded
-  pub vaer : ranThrough q s .control .vaer ≡ bitOr (s .control .vaer) (gathers q s)
+  pub vaer : ranThrough q b .state .control .vaer ≡ bitOr (b .state .control .vaer) (gathers q b)
   -- and if that is anything, VEN is cleared and AEX set
-  pub vpsr : ranThrough q s .control .vpsr ≡ pick (eqb (gathers q s) 0) (s .control .vpsr) 0x80
+  pub vpsr : ranThrough q b .state .control .vpsr ≡ pick (eqb (gathers q b) 0) (b .state .control .vpsr) 0x80
   -- the state is in range
-  pub in-range : inRange (ranThrough q s .control) ≡ true
+  pub in-range : inRange (ranThrough q b .state .control) ≡ true
   -- "So after an exception a second call gets 3": of any well-formed queue
-  pub second-call : (gathers q s ≡ 0 → ⊥) → (q′ : Queue) → wellFormed q′ ≡ true → acceptance (ranThrough q s .control) q′ ≡ Disabled
+  pub second-call : (gathers q b ≡ 0 → ⊥) → (q′ : Queue) → wellFormed q′ ≡ true → acceptance (ranThrough q b .state .control) q′ ≡ Disabled
 
-abbrev pub RunEnds : Queue → State → Type 0
-RunEnds q s = isDone (acceptance (s .control) q) ≡ true → Ends q s
+abbrev pub RunEnds : Queue → Marked → Type 0
+RunEnds q b = isDone (acceptance (b .state .control) q) ≡ true → Ends q b
 
 -- ---- "An empty queue with VEN set, and with an empty list where one is given, is done and changes nothing."
 abbrev pub emptyQueue : Queue
 emptyQueue = queue [] [] []
 
-abbrev pub EmptyQueue : State → Type 0
-EmptyQueue s = inRange (s .control) ≡ true → enabled (s .control) ≡ true → queueRun emptyQueue s ≡ outcome (Done 0) s
+abbrev pub EmptyQueue : Marked → Type 0
+EmptyQueue b = inRange (b .state .control) ≡ true → enabled (b .state .control) ≡ true → queueRun emptyQueue b ≡ outcome (Done 0) b
 
-abbrev pub EmptyList : State → Type 0
-EmptyList s = inRange (s .control) ≡ true → enabled (s .control) ≡ true → orderedRun emptyQueue [] s ≡ outcome (Done 0) s
+abbrev pub EmptyList : Marked → Type 0
+EmptyList b = inRange (b .state .control) ≡ true → enabled (b .state .control) ≡ true → orderedRun emptyQueue [] b ≡ outcome (Done 0) b

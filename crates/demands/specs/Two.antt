@@ -1,5 +1,5 @@
 -- DEMAND 2: when an instruction is done, and what it then leaves, said from its entry state; and the two round trips of saving and loading. Document 01,
--- "What an element receives" and "Memory": masked elements, those at or past VLR and everything else are as they were.
+-- "What an element receives" and "Memory": masked elements, those at or past VLR and everything else are as they were. Document 02, Q-3: and the marks.
 use mathlib.Core.Bool.{true, false, not, _&&_}
 use mathlib.Core.List.{List, _++_}
 use mathlib.Core.Logic.{_⊎_, _↔_}
@@ -14,6 +14,7 @@ use Rattle.numbers.specs.Choice.{pick}
 use Rattle.numbers.specs.Halves.{low, withLow}
 use Rattle.state.specs.declared.answer.Answer.the-variants.{Done}
 use Rattle.state.specs.Answer.{isDone}
+use Rattle.state.specs.Marks.{Marked, marked, noMarks}
 use Rattle.state.specs.Outcome.{outcome}
 use Rattle.state.specs.State.{State, inRange, enabled}
 use Rattle.state.specs.Elements.{at, matches}
@@ -34,11 +35,12 @@ use Rattle.execute.specs.Execute.{executedOf}
 use Rattle.saved.specs.File.{Held}
 use Rattle.saved.specs.Save.{saving}
 use Rattle.saved.specs.Load.{loading}
+use Rattle.demands.specs.Written.{MarksAfter}
 
 -- ---- a register instruction that works element by element
 -- what element i receives of the entry values, and what it records
 abbrev pub receives : Instruction → ℕ → State → ℕ → Out
-receives ins scalar s i = received ins scalar i (begun s)
+receives ins scalar s i = received ins scalar i (begun (marked s noMarks))
 
 -- what VAER gets of the elements below n: the bits of the types, and Vc's
 unfoldable pub recordedBelow : ℕ → Instruction → ℕ → State → ℕ
@@ -142,15 +144,18 @@ pub record Leaves (ins : Instruction) (scalar base stride : ℕ) (s : State) (w 
   pub loads : isMemory (ins .work) ≡ true → isStore (ins .work) ≡ false → Loaded ins base stride s origin w w′ after
   pub stores : isMemory (ins .work) ≡ true → isStore (ins .work) ≡ true → Stored ins base stride s origin w w′ after
 
-pub record OneInstruction (s : State) (opcode cntrl scalar base stride : ℕ) (w : List ℕ) (origin : ℕ) : Type 0 where
+pub record OneInstruction (b : Marked) (opcode cntrl scalar base stride : ℕ) (w : List ℕ) (origin : ℕ) : Type 0 where
   -- it is done exactly when this holds of some instruction
-  pub done : (isDone (executedOf s opcode cntrl scalar base stride w origin .answer) ≡ true)
-      ↔ ((ins : Instruction) × Accepts s opcode cntrl base stride w origin ins)
-  -- and then it gives 0 with 0 beside it, and leaves this, of a state of 1,024 elements
-  pub gives : (ins : Instruction) → Accepts s opcode cntrl base stride w origin ins → executedOf s opcode cntrl scalar base stride w origin .answer ≡ Done 0
-  pub leaves : length (s .elements) ≡ 1024 → (ins : Instruction) → Accepts s opcode cntrl base stride w origin ins
-      → Leaves ins scalar base stride s w origin (executedOf s opcode cntrl scalar base stride w origin .left .0)
-      (executedOf s opcode cntrl scalar base stride w origin .left .1)
+  pub done : (isDone (executedOf b opcode cntrl scalar base stride w origin .answer) ≡ true)
+      ↔ ((ins : Instruction) × Accepts (b .state) opcode cntrl base stride w origin ins)
+  -- and then it gives 0 with 0 beside it, and leaves this, of a state of 1,024 elements and of sixteen marks
+  pub gives : (ins : Instruction) → Accepts (b .state) opcode cntrl base stride w origin ins
+      → executedOf b opcode cntrl scalar base stride w origin .answer ≡ Done 0
+  pub leaves : length (b .state .elements) ≡ 1024 → (ins : Instruction) → Accepts (b .state) opcode cntrl base stride w origin ins
+      → Leaves ins scalar base stride (b .state) w origin (executedOf b opcode cntrl scalar base stride w origin .left .0 .state)
+      (executedOf b opcode cntrl scalar base stride w origin .left .1)
+  pub marks : length (b .marks) ≡ 16 → (ins : Instruction) → Accepts (b .state) opcode cntrl base stride w origin ins
+      → MarksAfter ins (b .state .control) (b .marks) (executedOf b opcode cntrl scalar base stride w origin .left .0 .marks)
 
 -- ---- Document 01, "Saved state and readings": saving and loading, into bytes with room for a file and over any state of 1,024 elements
 -- saving a state that the machine can hold is done, and loading the bytes that it wrote gives that state
@@ -167,6 +172,6 @@ SavesAgain file =
 
 -- ---- DEMAND 2, whole
 pub record DemandTwo : Type 0 where
-  pub instruction : (s : State) (opcode cntrl scalar base stride : ℕ) (w : List ℕ) (origin : ℕ) → OneInstruction s opcode cntrl scalar base stride w origin
+  pub instruction : (b : Marked) (opcode cntrl scalar base stride : ℕ) (w : List ℕ) (origin : ℕ) → OneInstruction b opcode cntrl scalar base stride w origin
   pub load-of-save : (s : State) → LoadsAgain s
   pub save-of-load : (file : List ℕ) → SavesAgain file

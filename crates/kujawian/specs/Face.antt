@@ -1,5 +1,5 @@
--- The state as C hands it over: 1,024 numbers, element e of register r at r*64+e, the control record as five numbers, and the marks as sixteen. (The control writes take the
--- record itself: their promises are control/specs/Moves.antt's own.)
+-- The state as C hands it over: 1,024 numbers, element e of register r at r*64+e, the control record as five numbers, and the marks as sixteen. (The
+-- control writes take the record itself: their promises are control/specs/Moves.antt's own.)
 -- Document 01, "Numbers given back": a call returns the number; what stands beside it goes to *beside.
 use mathlib.Core.Bool.{_&&_}
 use mathlib.Core.List.{List}

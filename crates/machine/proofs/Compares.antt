@@ -34,7 +34,7 @@ use Rattle.machine.specs.Run.{Gathered, Run, run, added, joined}
 use Rattle.state.specs.declared.Control.{Control}
 use Rattle.state.specs.Marks.{oneElement}
 use Rattle.state.specs.State.{withVmr, withVcr}
-use Rattle.machine.specs.Step.{first, second, chooses, received, registerBit, notes, written, marking, recorded, worked}
+use Rattle.machine.specs.Step.{first, second, chooses, received, registerBit, notes, written, wroteAt, adding, worked}
 use Rattle.machine.specs.Iota.{iotaStep}
 use Rattle.machine.specs.Working.{operandAt, comparedAt, oddFrom, OddBelow, effected, doneFor}
 use Rattle.machine.proofs.Gather.{joined-nothing, joined-twice}
@@ -210,11 +210,11 @@ module _ (ins : Instruction) (x which : ℕ) (l : List ℕ) (c : Control) (g : G
     unfolding worked
     one =
         sym
-        (ap (λ (o : Out). recorded (added (notes (registerBit (writesMask ins) (ins .vc .0)) (o .types)) (ins .vc .0) (marking ins i))
+        (ap (λ (o : Out). adding (added (notes (registerBit (writesMask ins) (ins .vc .0)) (o .types)) (ins .vc .0) (wroteAt ins i))
         (written ins i (o .value) (reached m))) receives
-        ∙ ap (λ (t : Bool). recorded (added (notes (registerBit t (ins .vc .0)) (out i .types)) (ins .vc .0) (pick t 0 (oneElement i)))
+        ∙ ap (λ (t : Bool). adding (added (notes (registerBit t (ins .vc .0)) (out i .types)) (ins .vc .0) (pick t 0 (oneElement i)))
         (written ins i (out i .value) (reached m))) compare
-        ∙ ap (recorded (added (notes 0 (out i .types)) (ins .vc .0) 0)) (writes (out i .value))
+        ∙ ap (adding (added (notes 0 (out i .types)) (ins .vc .0) 0)) (writes (out i .value))
         ∙ ap (run l (withVmr c (withBit (m .vmr) i (out i .value % 2))))
         (joined-twice g (m .types) (notes 0 (out i .types)) (ins .vc .0) 0 0))
 

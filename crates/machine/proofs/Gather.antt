@@ -16,7 +16,7 @@ use Rattle.state.specs.State.{state}
 use Rattle.machine.specs.declared.Progress.{Progress}
 use Rattle.machine.specs.Run.{Gathered, Added, added, joined, ended, finished}
 use Rattle.machine.specs.Step.{notes}
-use Rattle.machine.specs.Working.{underWay}
+use Rattle.machine.specs.Run.{underWay}
 
 abbrev gathered : ℕ → Bool → List ℕ → Gathered
 gathered v r m = record { vaer = v; recorded = r; marks = m }
@@ -49,6 +49,14 @@ pub joined-nothing : (g : Gathered) (register : ℕ) → joined g (added 0 regis
 unfolding joined
 joined-nothing g register = each (or-zero-r (g .vaer)) (or-false (g .recorded)) (marks-none (g .marks) register)
 
+-- of two one is something exactly where their or is
+pub some-or : (x y : ℕ) → (not (eqb x 0) || not (eqb y 0)) ≡ not (eqb (bitOr x y) 0)
+some-or x y = at (eqb x 0) (eqb y 0) ∙ ap not (sym (or-none x y))
+  where
+    at : (a b : Bool) → (not a || not b) ≡ not (a && b)
+    at true b = refl
+    at false b = refl
+
 -- two steps of one register add together what both add
 pub joined-twice : (g : Gathered) (x y register s t : ℕ)
     → joined (joined g (added x register s)) (added y register t) ≡ joined g (added (bitOr x y) register (bitOr s t))
@@ -56,12 +64,8 @@ unfolding joined
 joined-twice g x y register s t =
     each
     (or-assoc (g .vaer) x y)
-    (either-assoc (g .recorded) (not (eqb x 0)) (not (eqb y 0)) ∙ ap (λ (b : Bool). g .recorded || b) (at (eqb x 0) (eqb y 0) ∙ ap not (sym (or-none x y))))
+    (either-assoc (g .recorded) (not (eqb x 0)) (not (eqb y 0)) ∙ ap (λ (b : Bool). g .recorded || b) (some-or x y))
     (marks-twice (g .marks) register s t)
-  where
-    at : (a b : Bool) → (not a || not b) ≡ not (a && b)
-    at true b = refl
-    at false b = refl
 
 -- types gather before or after the register's bit joins them
 pub notes-or : (register t u : ℕ) → bitOr (notes register t) (notes register u) ≡ notes register (bitOr t u)

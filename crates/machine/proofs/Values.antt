@@ -24,7 +24,7 @@ use Rattle.element.specs.declared.Out.{Out}
 use Rattle.element.specs.Receives.{resultOf}
 use Rattle.machine.specs.declared.Effect.{Effect}
 use Rattle.machine.specs.Run.{Gathered, Run, run, added, joined}
-use Rattle.machine.specs.Step.{first, second, received, registerBit, notes, written, marking, recorded, worked}
+use Rattle.machine.specs.Step.{first, second, received, registerBit, notes, written, wroteAt, adding, worked}
 use Rattle.machine.specs.Iota.{iotaStep}
 use Rattle.machine.specs.Working.{matched, Lanes, lanes, lane, effected, doneFor}
 use Rattle.machine.proofs.Gather.{joined-nothing, joined-twice, notes-or}
@@ -84,11 +84,11 @@ module _ (ins : Instruction) (x which : ℕ) (l : List ℕ) (c : Control) (g : G
       unfolding worked lane of
       one =
           sym
-          (ap (λ (o : Out). recorded (added (notes (registerBit (writesMask ins) (ins .vc .0)) (o .types)) (ins .vc .0) (marking ins i))
+          (ap (λ (o : Out). adding (added (notes (registerBit (writesMask ins) (ins .vc .0)) (o .types)) (ins .vc .0) (wroteAt ins i))
           (written ins i (o .value) (reached s))) receives
-          ∙ ap (λ (t : Bool). recorded (added (notes (registerBit t (ins .vc .0)) (out .types)) (ins .vc .0) (pick t 0 (oneElement i)))
+          ∙ ap (λ (t : Bool). adding (added (notes (registerBit t (ins .vc .0)) (out .types)) (ins .vc .0) (pick t 0 (oneElement i)))
           (written ins i (out .value) (reached s))) no-mask
-          ∙ ap (recorded (added (notes register (out .types)) (ins .vc .0) (oneElement i))) (writes (out .value))
+          ∙ ap (adding (added (notes register (out .types)) (ins .vc .0) (oneElement i))) (writes (out .value))
           ∙ ap (run (set (s .0 .elements) (placeOf (ins .vc .0) i) (out .value)) c)
           (joined-twice g (notes register (s .0 .types)) (notes register (out .types)) (ins .vc .0) (s .1) (oneElement i)
           ∙ ap (λ (n : ℕ). joined g (added n (ins .vc .0) (joins i (s .1)))) (notes-or register (s .0 .types) (out .types))))

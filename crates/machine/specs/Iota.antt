@@ -34,7 +34,7 @@ walked vmr mtf stride vc (suc n) l = turned vmr mtf stride vc n (matching vmr mt
 abbrev pub countOf : Instruction → Control → ℕ
 countOf ins c = matching (c .vmr) (ins .mtf) (c .vlr)
 
--- VCR is the number of matching mask bits below VLR; elements from VCR on keep, and the first VCR are marked
+-- VCR is the number of matching mask bits below VLR; elements from VCR on keep. Document 02, Q-3: and "the first VCR" are marked
 unfoldable pub iotaStep : Instruction → ℕ → Run → Run
 iotaStep ins stride r =
     run (walked (r .control .vmr) (ins .mtf) (low stride) (ins .vc .0) (r .control .vlr) (r .elements))

@@ -1,5 +1,5 @@
 -- A run of instructions under way. Document 01, "Queues and orders": one bit beside the state keeps whether anything was recorded in this run.
--- Document 02, "Which elements were written" (Q-3): a call keeps the marks that it is handed, and its steps add theirs.
+-- Document 02, "Which elements were written" (Q-3): "an instruction keeps any marks it is handed and adds its own".
 use mathlib.Core.Bool.{Bool, false, not, _||_}
 use mathlib.Core.List.{List}
 use Prim.Native.Nat.{ℕ}
@@ -8,10 +8,12 @@ use lib.Bits.{bitOr}
 use Rattle.numbers.specs.Choice.{pick}
 use Rattle.numbers.specs.Bits.{withBit}
 use Rattle.state.specs.declared.Control.{Control}
-use Rattle.state.specs.Marks.{Marked, marked, withMarks}
+use Rattle.state.specs.Marks.{Marked, marked, alsoMarked}
 use Rattle.state.specs.State.{state, withVaer, withVpsr}
+use Rattle.machine.specs.declared.Noted.{Noted}
+use Rattle.machine.specs.declared.Progress.{Progress}
 
--- ---- what a run gathers, by or: the bits that VAER gets, that one bit, and the marks
+-- ---- what a run gathers, by or, so that no order binds it and no step waits for it: the bits that VAER gets, that one bit, and the marks
 pub record Gathered : Type 0 where
   pub vaer : ℕ
   pub recorded : Bool
@@ -31,7 +33,7 @@ joined g a =
     record {
       vaer = bitOr (g .vaer) (a .notes);
       recorded = g .recorded || not (eqb (a .notes) 0);
-      marks = withMarks (g .marks) (a .register) (a .wrote);
+      marks = alsoMarked (g .marks) (a .register) (a .wrote);
     }
 
 -- ---- the elements, the control record, and what was gathered so far
@@ -58,3 +60,14 @@ ended c vaer recorded = stopped recorded (withVaer c (bitOr (c .vaer) vaer))
 -- the state at the end of a run, and the marks
 abbrev pub finished : Run → Marked
 finished r = marked (state (r .elements) (ended (r .control) (r .gathered .vaer) (r .gathered .recorded))) (r .gathered .marks)
+
+-- ---- as the code has it: the elements and the marks are lent, and the rest goes from step to step by value
+abbrev pub gatheredIn : List ℕ → Noted → Gathered
+gatheredIn m n = record { vaer = n .vaer; recorded = n .recorded; marks = m }
+
+abbrev pub underWay : List ℕ → List ℕ → Progress → Run
+underWay l m p = run l (p .control) (gatheredIn m (p .noted))
+
+-- one that begins: underWay l m (starting c) is begun (marked (state l c) m)
+abbrev pub starting : Control → Progress
+starting c = record { control = c; noted = record { vaer = 0; recorded = false } }

@@ -58,17 +58,17 @@ written ins i value r =
     (run (r .elements) (withVmr (r .control) (withBit (r .control .vmr) i (value % 2))) (r .gathered))
     (run (set (r .elements) (placeOf (ins .vc .0) i) value) (r .control) (r .gathered))
 
--- so it marks Vc's element i, and compare none
-abbrev pub marking : Instruction → ℕ → ℕ
-marking ins i = pick (writesMask ins) 0 (oneElement i)
+-- so the set of the elements of Vc that it wrote has i alone; a compare's is empty, and its Vc field, which is a relation, then names no register
+abbrev pub wroteAt : Instruction → ℕ → ℕ
+wroteAt ins i = pick (writesMask ins) 0 (oneElement i)
 
-abbrev pub recorded : Added → Run → Run
-recorded a r = run (r .elements) (r .control) (joined (r .gathered) a)
+abbrev pub adding : Added → Run → Run
+adding a r = run (r .elements) (r .control) (joined (r .gathered) a)
 
 -- the work of element i, and nothing else
 unfoldable pub worked : Instruction → ℕ → ℕ → Run → Run
 worked ins scalar i r =
-    recorded (added (notes (registerBit (writesMask ins) (ins .vc .0)) (received ins scalar i r .types)) (ins .vc .0) (marking ins i))
+    adding (added (notes (registerBit (writesMask ins) (ins .vc .0)) (received ins scalar i r .types)) (ins .vc .0) (wroteAt ins i))
     (written ins i (received ins scalar i r .value) r)
 
 -- all other destination elements and mask bits keep their contents

@@ -21,8 +21,6 @@ use Rattle.opcodes.specs.ControlWord.{fieldOf}
 use Rattle.element.specs.declared.Out.{Out}
 use Rattle.element.specs.Receives.{resultOf}
 use Rattle.machine.specs.declared.Effect.{Effect}
-use Rattle.machine.specs.declared.Noted.{Noted}
-use Rattle.machine.specs.declared.Progress.{Progress}
 use Rattle.machine.specs.Run.{Gathered, Run, run, added, joined}
 use Rattle.machine.specs.Step.{first, second, worked}
 use Rattle.machine.specs.Iota.{iotaStep, put}
@@ -99,18 +97,6 @@ unfoldable pub iotaTurn : ℕ → ℕ → ℕ → Counted → Counted
 iotaTurn stride vc i s = counted (put vc (s .next) (i * stride % 2 ^ 32) (s .elements)) (s .next + 1)
 
 -- ---- an instruction, or one step of it
--- what was gathered: what goes from step to step by value, and the lent marks
-abbrev pub gatheredIn : List ℕ → Noted → Gathered
-gatheredIn m n = record { vaer = n .vaer; recorded = n .recorded; marks = m }
-
--- the run under way, over the lent elements and marks
-abbrev pub underWay : List ℕ → List ℕ → Progress → Run
-underWay l m p = run l (p .control) (gatheredIn m (p .noted))
-
--- one that begins, with nothing noted
-abbrev pub starting : Control → Progress
-starting c = record { control = c; noted = record { vaer = 0; recorded = false } }
-
 -- the run after what was done, which left the elements l
 abbrev pub effected : List ℕ → Instruction → Effect → Control → Gathered → Run
 effected l ins e c g = run l (withVcr (withVmr c (e .vmr)) (e .vcr)) (joined g (added (e .notes) (ins .vc .0) (e .wrote)))

@@ -23,7 +23,8 @@ ghost use Rattle.machine.specs.Run.{Gathered, run as runOf};
 ghost use Rattle.machine.specs.Step.{registerBit, notes, worked};
 ghost use Rattle.machine.specs.Instruction.{stepOf, wholeOf};
 ghost use Rattle.opcodes.specs.Working.{Below, isRegisterWork};
-ghost use Rattle.machine.specs.Working.{matched as matchedOf, gatheredIn, underWay, effected as effectedOf, doneFor};
+ghost use Rattle.machine.specs.Working.{matched as matchedOf, effected as effectedOf, doneFor};
+ghost use Rattle.machine.specs.Run.{gatheredIn, underWay};
 
 // The bit of a register in VAER.
 fn register_bit(register: Register) -> u64

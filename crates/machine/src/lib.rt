@@ -1,4 +1,4 @@
-// Register instructions over the lent elements.
+// Register instructions over the lent elements and marks.
 use state::Control;
 
 pub mod instruction;

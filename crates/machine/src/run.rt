@@ -6,10 +6,10 @@ use state::Control;
 ghost use mathlib.Core.Path.{_≡_};
 ghost use Prim.Native.Nat.{ℕ};
 ghost use mathlib.Core.List.{List};
-ghost use Rattle.state.specs.Marks.{withMarks};
+ghost use Rattle.state.specs.Marks.{alsoMarked};
 ghost use Rattle.machine.specs.Run.{added, joined, ended};
 ghost use Rattle.machine.specs.Step.{notes as notesOf};
-ghost use Rattle.machine.specs.Working.{gatheredIn, starting};
+ghost use Rattle.machine.specs.Run.{gatheredIn, starting};
 
 // A run that begins.
 pub fn begin(control: Control) -> Progress
@@ -33,7 +33,7 @@ pub fn note(register: u64, types: u64) -> u64
 
 // What was noted, and what VAER gets beside it.
 pub fn gather(noted: Noted, notes: u64) -> Noted
-    ensures { λ r. ⌜ ((m : List ℕ) (register wrote : ℕ) → gatheredIn (withMarks m register wrote) r ≡ joined (gatheredIn m noted) (added notes register wrote)) ⌝ }
+    ensures { λ r. ⌜ ((m : List ℕ) (register wrote : ℕ) → gatheredIn (alsoMarked m register wrote) r ≡ joined (gatheredIn m noted) (added notes register wrote)) ⌝ }
 {
     Noted {
         vaer: noted.vaer | notes,

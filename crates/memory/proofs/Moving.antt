@@ -12,7 +12,7 @@ use Rattle.numbers.specs.Choice.{pick}
 use Rattle.numbers.specs.Rising.{rising}
 use Rattle.numbers.specs.Working.{ofOnes}
 use Rattle.numbers.specs.Bytes.{bytesOf, numberOf}
-use Rattle.state.specs.Marks.{Marked, withMarks}
+use Rattle.state.specs.Marks.{Marked, alsoMarked}
 use Rattle.state.specs.State.{placeOf}
 use Rattle.state.proofs.Marking.{marks-rise}
 use Rattle.state.specs.Elements.{at}
@@ -75,7 +75,7 @@ module _ (quadword : Bool) (vc which : ℕ) (place : ℕ → ℕ) (n : ℕ) (l w
   stores-ones = refl
 
 -- and marked one by one they are marked all at once
-pub marks-ones : (vc which n : ℕ) (m : List ℕ) → which < 2 ^ n → rising (markStep vc (bit which)) n m ≡ withMarks m vc which
+pub marks-ones : (vc which n : ℕ) (m : List ℕ) → which < 2 ^ n → rising (markStep vc (bit which)) n m ≡ alsoMarked m vc which
 unfolding ofOnes markStep
 marks-ones vc which n m small = marks-rise m vc which n small
 

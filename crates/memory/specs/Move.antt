@@ -1,5 +1,5 @@
 -- Document 01, "Memory": all are tested before anything is moved; then the operated elements move, in rising order, so that the highest wins.
--- Document 02, "Which elements were written" (Q-3): loads mark the operated elements, stores none.
+-- Document 02, "Which elements were written" (Q-3): loads mark the operated elements; a store writes no element, so it marks none.
 use mathlib.Core.Bool.{Bool}
 use mathlib.Core.List.{List}
 use Prim.Native.Nat.{ℕ, _+_, _-_}
@@ -9,7 +9,7 @@ use Rattle.numbers.specs.Halves.{withLow}
 use Rattle.numbers.specs.Rising.{rising}
 use Rattle.state.specs.declared.answer.Answer.{Answer}
 use Rattle.state.specs.declared.answer.Answer.the-variants.{Done, WindowRefused, Misaligned, OutsideWindow}
-use Rattle.state.specs.Marks.{Marked, marked, withMarks, oneElement}
+use Rattle.state.specs.Marks.{Marked, marked, alsoMarked, oneElement}
 use Rattle.state.specs.Outcome.{Outcome, outcome, refusedWindow}
 use Rattle.state.specs.State.{state, placeOf}
 use Rattle.state.specs.Elements.{at}
@@ -35,13 +35,13 @@ loadStep quadword vc chosen place w i l =
 
 -- and its mark
 unfoldable pub markStep : ℕ → (ℕ → Bool) → ℕ → List ℕ → List ℕ
-markStep vc chosen i m = pick (chosen i) (withMarks m vc (oneElement i)) m
+markStep vc chosen i m = pick (chosen i) (alsoMarked m vc (oneElement i)) m
 
 -- a store of element i of Vc, if it is operated on
 unfoldable pub storeStep : Bool → ℕ → (ℕ → Bool) → (ℕ → ℕ) → List ℕ → ℕ → List ℕ → List ℕ
 storeStep quadword vc chosen place l i w = pick (chosen i) (putAt (sizeOf quadword) w (place i) (at l vc i)) w
 
--- the elements, the marks and the window after those below n are moved: a store changes the window, a load the elements, which it marks
+-- the elements, the marks and the window after those below n are moved: a store changes the window, a load the operated elements of Vc, which it marks
 abbrev pub movesBy : Bool → Bool → ℕ → (ℕ → Bool) → (ℕ → ℕ) → ℕ → List ℕ → List ℕ → List ℕ → List ℕ × List ℕ × List ℕ
 movesBy store quadword vc chosen place n l m w =
     pick store

@@ -1,4 +1,4 @@
-// Memory instructions over the lent elements and the lent window.
+// Memory instructions over the lent elements, marks and window.
 use opcodes::Instruction;
 use opcodes::masking;
 use opcodes::works;

@@ -33,25 +33,24 @@ bit-one i k = ap (λ (x : ℕ). bit x k) (sym (one-bit i)) ∙ at (decEq k i)
     at (no e) = bit-kept 0 i 1 (omega arith) k e ∙ bit-none k ∙ sym (ne-eqb k i e)
 
 -- ---- the first n
-module _ (w n : ℕ) (fits : n ≤ w) where
-  all-ones : (m k : ℕ) → bit (2 ^ m - 1) k ≡ ltb k m
-  all-ones m k = at (below-or-not k m)
-    where
-      at : (k < m) ⊎ (m ≤ k) → bit (2 ^ m - 1) k ≡ ltb k m
-      at (inl h) = ap (λ (x : ℕ). bit x k) whole ∙ bit-complement m 0 k (pow-pos m) h ∙ ap not (bit-none k) ∙ sym (lt-ltb k m h)
-        where
-          whole : 2 ^ m - 1 ≡ 2 ^ m - 1 - 0
-          whole = omega arith
-      at (inr h) = bit-above (2 ^ m - 1) m k (let p = pow-pos m in omega arith) h ∙ sym (le-ltb k m h)
+pub first-bits : (n k : ℕ) → bit (2 ^ n - 1) k ≡ ltb k n
+first-bits n k = at (below-or-not k n)
+  where
+    whole : 2 ^ n - 1 ≡ 2 ^ n - 1 - 0
+    whole = omega arith
 
-  pub first-ones : lowBits (2 ^ w - 1) n ≡ 2 ^ n - 1
-  first-ones =
-      same-bits (lowBits (2 ^ w - 1) n) (2 ^ n - 1)
-      (λ k. bit-below (2 ^ w - 1) n k ∙ ap (λ (t : Bool). ltb k n && t) (all-ones w k) ∙ at k (below-or-not k n) ∙ sym (all-ones n k))
-    where
-      at : (k : ℕ) → (k < n) ⊎ (n ≤ k) → (ltb k n && ltb k w) ≡ ltb k n
-      at k (inl h) = rw (lt-ltb k n h, lt-ltb k w (omega arith))
-      at k (inr h) = rw (le-ltb k n h)
+    at : (k < n) ⊎ (n ≤ k) → bit (2 ^ n - 1) k ≡ ltb k n
+    at (inl h) = ap (λ (x : ℕ). bit x k) whole ∙ bit-complement n 0 k (pow-pos n) h ∙ ap not (bit-none k) ∙ sym (lt-ltb k n h)
+    at (inr h) = bit-above (2 ^ n - 1) n k (let p = pow-pos n in omega arith) h ∙ sym (le-ltb k n h)
+
+pub first-ones : (w n : ℕ) → n ≤ w → lowBits (2 ^ w - 1) n ≡ 2 ^ n - 1
+first-ones w n fits =
+    same-bits (lowBits (2 ^ w - 1) n) (2 ^ n - 1)
+    (λ k. bit-below (2 ^ w - 1) n k ∙ ap (λ (t : Bool). ltb k n && t) (first-bits w k) ∙ at k (below-or-not k n) ∙ sym (first-bits n k))
+  where
+    at : (k : ℕ) → (k < n) ⊎ (n ≤ k) → (ltb k n && ltb k w) ≡ ltb k n
+    at k (inl h) = rw (lt-ltb k n h, lt-ltb k w (omega arith))
+    at k (inr h) = rw (le-ltb k n h)
 
 -- ---- a set, gathered one element at a time
 abbrev pub joins : ℕ → ℕ → ℕ

@@ -1,4 +1,4 @@
--- DEMAND 3: every permitted list of a queue'b steps, walked one entry at a time, ends where the queue ends straight through.
+-- DEMAND 3: every permitted list of a queue's steps, walked one entry at a time, ends where the queue ends straight through.
 -- Assumes nothing.
 use mathlib.Core.Path.{_≡_, refl, sym, ap, subst, _∙_}
 use mathlib.Core.Logic.{_↔_}

@@ -1,4 +1,4 @@
--- Document 01, "Queues and orders". DEMAND 3, as a single claim about a state, a queue that is accepted there, any list, and what
+-- Document 01, "Queues and orders". DEMAND 3, as a single claim about a state with its marks, a queue that is accepted there, any list, and what
 -- the call by that list gives back and leaves.
 use mathlib.Core.Bool.{true}
 use mathlib.Core.List.{List}

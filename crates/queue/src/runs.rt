@@ -6,7 +6,7 @@ use state::Element;
 ghost use mathlib.Core.Path.{_≡_};
 ghost use Prim.Native.Nat.{ℕ, _≤_, _<_};
 ghost use lib.ListN.{length, getD};
-ghost use Rattle.machine.specs.Working.{underWay};
+ghost use Rattle.machine.specs.Run.{underWay};
 ghost use Rattle.order.specs.Order.{run};
 ghost use Rattle.order.specs.Steps.{position};
 ghost use Rattle.queue.specs.CallsWorking.{Runs, decodedAt, actBy, throughBy};

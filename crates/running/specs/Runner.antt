@@ -21,7 +21,7 @@ fileIn input = take 16464 input
 abbrev pub recordsIn : List ℕ → List ℕ
 recordsIn input = drop 16464 input
 
--- without the marks, which the runner does not show
+-- without the marks, which the runner does not show (so any would do to begin with)
 abbrev pub unmarked : Outcome Marked → Outcome State
 unmarked o = outcome (o .answer) (o .left .state)
 

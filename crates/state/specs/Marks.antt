@@ -13,11 +13,12 @@ pub record Marked : Type 0 where
 abbrev pub marked : State → List ℕ → Marked
 marked s m = record { state = s; marks = m }
 
--- the marks that are there are kept, and those of a set of register r's elements join them
-abbrev pub withMarks : List ℕ → ℕ → ℕ → List ℕ
-withMarks m r which = set m r (bitOr (getD m r 0) which)
+-- A set of elements is a number: its bit i says whether element i is in it. The marks that are there are kept, and those of a set of register r's elements
+-- join them.
+abbrev pub alsoMarked : List ℕ → ℕ → ℕ → List ℕ
+alsoMarked m r which = set m r (bitOr (getD m r 0) which)
 
--- element i alone, and the first n elements, as sets
+-- the set of element i alone, and of the first n
 abbrev pub oneElement : ℕ → ℕ
 oneElement i = 2 ^ i
 

@@ -7,7 +7,7 @@ use Rattle.state.specs.Answer.{numbers}
 use Rattle.state.specs.Marks.{Marked, marked}
 use Rattle.state.specs.State.{State, state}
 
--- the answer, and what the call leaves of what it may alter: the control record, the state, with its marks, or these with a window
+-- the answer, and what the call leaves of what it may alter: the control record; the state; the state with its marks; these and a window; or lent bytes
 pub record Outcome (A : Type 0) : Type 0 where
   pub answer : Answer
   pub left : A
@@ -31,7 +31,7 @@ refused a c = outcome a (afterRefusal a c)
 abbrev pub refusedState : Answer → State → Outcome State
 refusedState a s = outcome a (state (s .elements) (afterRefusal a (s .control)))
 
--- on a state with its marks: "A refused call changes no mark."
+-- on a state with its marks. Document 02, Q-3: "A refused call changes no mark."
 abbrev pub refusedMarked : Answer → Marked → Outcome Marked
 refusedMarked a b = outcome a (marked (refusedState a (b .state) .left) (b .marks))
 

@@ -2,12 +2,12 @@
 use crate::Register;
 ghost use mathlib.Core.Path.{_≡_};
 ghost use Prim.Native.Nat.{_<_};
-ghost use Rattle.state.specs.Marks.{withMarks, noMarks, allMarks};
+ghost use Rattle.state.specs.Marks.{alsoMarked, noMarks, allMarks};
 
-// The elements of a set are marked, beside those that are.
+// The elements of a set are marked, beside those that are already.
 pub fn add(marks: &mut [u64; 16], register: Register, which: u64)
     requires { ⌜ register .0 < 16 ⌝ }
-    ensures { λ _. ⌜ now (marks .exit) ≡ withMarks (now (marks .entry)) (register .0) which ⌝ }
+    ensures { λ _. ⌜ now (marks .exit) ≡ alsoMarked (now (marks .entry)) (register .0) which ⌝ }
 {
     let r = register.0;
     marks[r] = marks[r] | which;

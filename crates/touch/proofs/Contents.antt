@@ -14,7 +14,7 @@ use Rattle.numbers.specs.Bits.{withBit}
 use Rattle.numbers.proofs.BitLaws.{digit, same-digits, digit-replaced, digit-kept}
 use Rattle.machine.specs.Run.{Gathered, Added, Run, run}
 use Rattle.state.specs.State.{withVmr}
-use Rattle.machine.specs.Step.{recorded}
+use Rattle.machine.specs.Step.{adding}
 use Rattle.touch.specs.Touch.{maskPlace, countPlace}
 
 -- an entry of a list that is replaced goes by the new one, or there is none
@@ -155,9 +155,9 @@ stored-same x v r r′ small long =
     get-element x (stored x v r) small ∙ set-same (r .elements) (r′ .elements) x v long ∙ sym (get-element x (stored x v r′) small)
 
 -- what is gathered stands at no place
-pub recorded-keeps : (a : Added) (p : ℕ) (r : Run) → get p (recorded a r) ≡ get p r
+pub adding-keeps : (a : Added) (p : ℕ) (r : Run) → get p (adding a r) ≡ get p r
 unfolding get
-recorded-keeps a p r = refl
+adding-keeps a p r = refl
 
-pub recorded-still : (a : Added) (r s : Run) → Still r s → Still r (recorded a s)
-recorded-still a r s k = record { long = k .long; past = k .past; vlr = k .vlr; vaer = k .vaer; vpsr = k .vpsr; high = k .high }
+pub adding-still : (a : Added) (r s : Run) → Still r s → Still r (adding a s)
+adding-still a r s k = record { long = k .long; past = k .past; vlr = k .vlr; vaer = k .vaer; vpsr = k .vpsr; high = k .high }

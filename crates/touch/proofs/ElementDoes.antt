@@ -19,14 +19,14 @@ use Rattle.opcodes.specs.Working.{Below}
 use Rattle.element.specs.declared.Out.{Out}
 use Rattle.element.specs.Receives.{resultOf}
 use Rattle.machine.specs.Run.{Gathered, Added, Run, added, joined}
-use Rattle.machine.specs.Step.{received, registerBit, notes, written, marking, worked, elementStep}
+use Rattle.machine.specs.Step.{received, registerBit, notes, written, wroteAt, worked, elementStep}
 use Rattle.opcodes.specs.Masking.{operated}
 use Rattle.machine.proofs.Gather.{joined-nothing}
 use Rattle.order.specs.Order.{Mem}
 use Rattle.touch.specs.Touch.{elementPlace, maskPlace, countPlace, placeIf, elementReads, writtenPlace}
 use Rattle.touch.proofs.Places.{mem-append-l, mem-append-r}
 use Rattle.touch.proofs.Contents.{get, get-element, get-mask, masked, stored, masked-here, masked-keeps, masked-still, stored-same, stored-keeps}
-use Rattle.touch.proofs.Contents.{stored-still, recorded-keeps, recorded-still, Still}
+use Rattle.touch.proofs.Contents.{stored-still, adding-keeps, adding-still, Still}
 use Rattle.touch.proofs.Commute.{HasVlr, Agree, Does}
 
 mem-place-if : (t : Bool) (p : ℕ) → t ≡ true → Mem p (placeIf t p)
@@ -102,7 +102,7 @@ module _ (n : ℕ) (ins : Instruction) (scalar i : ℕ) (regs : Below ins) (smal
   -- ---- what it changes
   -- what it adds to what the run gathers
   abbrev noting : Out → Added
-  noting o = added (notes (registerBit (writesMask ins) (ins .vc .0)) (o .types)) (ins .vc .0) (marking ins i)
+  noting o = added (notes (registerBit (writesMask ins) (ins .vc .0)) (o .types)) (ins .vc .0) (wroteAt ins i)
 
   abbrev nothing : Added
   nothing = added 0 (ins .vc .0) 0
@@ -148,7 +148,7 @@ module _ (n : ℕ) (ins : Instruction) (scalar i : ℕ) (regs : Below ins) (smal
   step-keeps r h p k out = go (operated ins (r .control) i)
     where
       go : (t : Bool) → get p (pick t (worked ins scalar i r) r) ≡ get p r
-      go true = recorded-keeps _ p (written ins i (received ins scalar i r .value) r) ∙ written-keeps (received ins scalar i r .value) r p k out
+      go true = adding-keeps _ p (written ins i (received ins scalar i r .value) r) ∙ written-keeps (received ins scalar i r .value) r p k out
       go false = refl
 
   step-still : (r : Run) → HasVlr n r → Still r (elementStep ins scalar i r)
@@ -156,7 +156,7 @@ module _ (n : ℕ) (ins : Instruction) (scalar i : ℕ) (regs : Below ins) (smal
   step-still r h = go (operated ins (r .control) i)
     where
       go : (t : Bool) → Still r (pick t (worked ins scalar i r) r)
-      go true = recorded-still _ r (written ins i (received ins scalar i r .value) r) (written-still (received ins scalar i r .value) r)
+      go true = adding-still _ r (written ins i (received ins scalar i r .value) r) (written-still (received ins scalar i r .value) r)
       go false = record { long = refl; past = λ k z. refl; vlr = refl; vaer = refl; vpsr = refl; high = λ k z. refl }
 
   step-leaves : (r r′ : Run) → HasVlr n r → HasVlr n r′ → length (r .elements) ≡ length (r′ .elements)
@@ -171,10 +171,10 @@ module _ (n : ℕ) (ins : Instruction) (scalar i : ℕ) (regs : Below ins) (smal
     where
       go : (t : Bool) → get (writtenPlace ins i) (pick t (worked ins scalar i r) r) ≡ get (writtenPlace ins i) (pick t (worked ins scalar i r′) r′)
       go true =
-          recorded-keeps _ (writtenPlace ins i) (written ins i (received ins scalar i r .value) r)
+          adding-keeps _ (writtenPlace ins i) (written ins i (received ins scalar i r .value) r)
           ∙ ap (λ (o : Out). get (writtenPlace ins i) (written ins i (o .value) r)) (same-received r r′ h h′ agree)
           ∙ written-here (received ins scalar i r′ .value) r r′ long
-          ∙ sym (recorded-keeps _ (writtenPlace ins i) (written ins i (received ins scalar i r′ .value) r′))
+          ∙ sym (adding-keeps _ (writtenPlace ins i) (written ins i (received ins scalar i r′ .value) r′))
       go false = agree (writtenPlace ins i) (subst (λ (x : ℕ). x ≤ countPlace) e k) (inr (inl refl))
   step-leaves r r′ h h′ long agree p k (inr e) = absurd e
 

@@ -3,7 +3,7 @@ use mathlib.Core.Path.{_≡_}
 use Prim.Native.Nat.{_≤_, _-_}
 use borrow.Author.Needs.{needs}
 use lib.ListN.{length}
-use Rattle.machine.specs.Working.{underWay}
+use Rattle.machine.specs.Run.{underWay}
 use Rattle.queue.specs.CallsWorking.{throughBy}
 use Rattle.numbers.proofs.Rising.{starts, turns, ends}
 use Rattle.queue.proofs.Through.{whole-short}

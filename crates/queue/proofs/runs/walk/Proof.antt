@@ -3,7 +3,7 @@ use mathlib.Core.Path.{_≡_, refl, ap, _∙_}
 use Prim.Native.Nat.{_-_}
 use borrow.Author.Needs.{needs}
 use lib.ListN.{length}
-use Rattle.machine.specs.Working.{underWay}
+use Rattle.machine.specs.Run.{underWay}
 use Rattle.queue.specs.CallsWorking.{actBy}
 use Rattle.order.proofs.RunLoop.{RunInv, run-start, run-one, run-end}
 use Rattle.queue.proofs.Through.{act-vlr, vlrOf}
