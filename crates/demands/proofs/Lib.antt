@@ -8,7 +8,10 @@ pub mod Ending
 pub mod Gathering
 pub mod Elementwise
 pub mod Counting
+pub mod MarksOf
+pub mod Stepping
 pub mod Moved
 pub mod Two
 pub mod Three
+pub mod Marks
 pub mod Rounds

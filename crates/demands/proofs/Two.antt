@@ -9,14 +9,16 @@ use borrow.Author.Tests.{ltb-true}
 use lib.Dec.{ltb, eqb}
 use lib.ListN.{length, getD}
 use Rattle.numbers.specs.Choice.{pick}
+use Rattle.numbers.proofs.Sets.{bit-none}
 use Rattle.numbers.proofs.Tests.{true-not-false, and-left, pick-true, pick-false}
 use Rattle.state.specs.declared.Control.{Control}
 use Rattle.state.specs.declared.answer.Answer.the-variants.{Done, OutOfRange}
 use Rattle.state.specs.Answer.{isDone}
 use Rattle.state.specs.Marks.{Marked, marked}
 use Rattle.state.specs.Outcome.{Outcome, outcome, refusedWindow}
-use Rattle.state.specs.State.{state, inRange, enabled}
+use Rattle.state.specs.State.{State, state, inRange, enabled}
 use Rattle.state.specs.Elements.{at}
+use Rattle.state.proofs.Marking.{marks-none}
 use Rattle.state.proofs.Ranges.{Ranged, ranged}
 use Rattle.opcodes.specs.declared.Instruction.{Instruction}
 use Rattle.opcodes.specs.declared.Decoded.{Decoded}
@@ -28,7 +30,8 @@ use Rattle.opcodes.specs.Decoding.{byOpcode, decodedOf}
 use Rattle.opcodes.specs.Masking.{operated}
 use Rattle.opcodes.specs.Working.{Below}
 use Rattle.opcodes.proofs.Passed.{passed, refusal}
-use Rattle.machine.specs.Instruction.{instructionDone}
+use Rattle.machine.specs.Run.{begun}
+use Rattle.machine.specs.Instruction.{wholeOf, instructionDone}
 use Rattle.memory.specs.Works.{isStore, isQuadword}
 use Rattle.memory.specs.Window.{allowed, numberAt}
 use Rattle.memory.specs.Move.{received, movesBy, movedOf}
@@ -37,7 +40,9 @@ use Rattle.execute.specs.Execute.{carriedOut, asDecoded, executedOf}
 use Rattle.saved.proofs.Saving.{saves-done}
 use Rattle.saved.proofs.RoundTrip.{loads-again, saves-again}
 use Rattle.demands.specs.Two.{placeIn, bytesEach, Inside, Loaded, Stored, Accepts, Leaves, OneInstruction, DemandTwo}
-use Rattle.demands.proofs.Coming.{and-twice, come}
+use Rattle.demands.specs.Written.{wroteElement, wrote, MarksAfter}
+use Rattle.demands.proofs.Coming.{and-twice, come, comeSet, come-bits}
+use Rattle.demands.proofs.MarksOf.{joins-marks, marks-come, Wrote, whole-wrote}
 use Rattle.demands.proofs.Elementwise as elementwise
 use Rattle.demands.proofs.Counting as counting
 use Rattle.demands.proofs.Moved.{loaded, stored-length, stored-others, stored-bytes}
@@ -227,7 +232,60 @@ module _ (b : Marked) (opcode cntrl scalar base stride : ℕ) (w : List ℕ) (or
             stores = λ n. absurd (true-not-false (sym m ∙ n));
           }
 
--- any state, opcode, control word, scalar, base, stride, window and origin
+      -- ---- the marks
+      module _ (sixteen : length (b .marks) ≡ 16) where
+        abbrev After : Outcome (Marked × List ℕ) → Type 0
+        After o = MarksAfter ins (b .state .control) (b .marks) (o .left .0 .marks)
+
+        -- a load's are those of the operated elements
+        load-marks : isMemory (ins .work) ≡ true → isStore (ins .work) ≡ false → After (movedOf b ins base stride w origin)
+        load-marks m e =
+            joins-marks ins (b .state .control) (b .marks) _ (comeSet (operated ins (b .state .control)) (b .state .control .vlr)) (fields .vc) sixteen
+            (ap (λ (x : Marked × List ℕ). x .0 .marks) (moved ins base stride b origin w (ap isDone (moves-done m)) false e)
+            ∙ marks-come (ins .vc .0) (operated ins (b .state .control)) (b .state .control .vlr) (b .marks))
+            (λ i. come-bits (operated ins (b .state .control)) (b .state .control .vlr) i ∙ every ins (b .state .control) i ∙ rw (m, e) refl)
+
+        store-marks : isMemory (ins .work) ≡ true → isStore (ins .work) ≡ true → After (movedOf b ins base stride w origin)
+        store-marks m e =
+            joins-marks ins (b .state .control) (b .marks) _ 0 (fields .vc) sixteen
+            (ap (λ (x : Marked × List ℕ). x .0 .marks) (moved ins base stride b origin w (ap isDone (moves-done m)) true e)
+            ∙ sym (marks-none (b .marks) (ins .vc .0)))
+            (λ i. bit-none i ∙ rw (m, e) refl)
+
+        register-wrote : isMemory (ins .work) ≡ false → Wrote ins (begun b) (wholeOf ins scalar (begun b))
+        register-wrote m = whole-wrote ins scalar (begun b) fields m count (range .vlr) sixteen
+
+        marks : After executed
+        unfolding instructionDone
+        marks = by (isMemory (ins .work)) refl (isStore (ins .work)) refl
+          where
+            by : (t : Bool) → isMemory (ins .work) ≡ t → (u : Bool) → isStore (ins .work) ≡ u → After executed
+            by true m true e = subst After (sym (moves-memory m)) (store-marks m e)
+            by true m false e = subst After (sym (moves-memory m)) (load-marks m e)
+            by false m u e = subst After (sym (is-register m)) (register-wrote m .marks)
+
+        -- ---- and what was not written
+        abbrev Keeps : Outcome (Marked × List ℕ) → Type 0
+        Keeps o =
+            (r i : ℕ) → r < 16 → i < 64 → wrote ins (b .state .control) r i ≡ false → at (o .left .0 .state .elements) r i ≡ at (b .state .elements) r i
+
+        load-kept : isMemory (ins .work) ≡ true → isStore (ins .work) ≡ false → Keeps executed
+        unfolding wrote
+        load-kept m e r i h k none = leaves .loads m e .elements r i h k ∙ pick-false (eqb r (ins .vc .0) && operated ins (b .state .control) i) _ _ (same ∙ none)
+          where
+            same : (eqb r (ins .vc .0) && operated ins (b .state .control) i) ≡ (eqb r (ins .vc .0) && wroteElement ins (b .state .control) i)
+            same = rw (m, e) refl
+
+        kept : Keeps executed
+        unfolding instructionDone
+        kept = by (isMemory (ins .work)) refl (isStore (ins .work)) refl
+          where
+            by : (t : Bool) → isMemory (ins .work) ≡ t → (u : Bool) → isStore (ins .work) ≡ u → Keeps executed
+            by true m true e = λ r i h k none. ap (λ (s : State). at (s .elements) r i) (leaves .stores m e .state)
+            by true m false e = load-kept m e
+            by false m u e = subst Keeps (sym (is-register m)) (register-wrote m .kept)
+
+-- any state, marks, opcode, control word, scalar, base, stride, window and origin
 instruction : (b : Marked) (opcode cntrl scalar base stride : ℕ) (w : List ℕ) (origin : ℕ) → OneInstruction b opcode cntrl scalar base stride w origin
 instruction b opcode cntrl scalar base stride w origin = record {
   done = (
@@ -236,6 +294,8 @@ instruction b opcode cntrl scalar base stride w origin = record {
   );
   gives = gives b opcode cntrl scalar base stride w origin;
   leaves = λ count ins a. leaves b opcode cntrl scalar base stride w origin ins a count;
+  marks = λ count sixteen ins a. marks b opcode cntrl scalar base stride w origin ins a count sixteen;
+  kept = λ count sixteen ins a. kept b opcode cntrl scalar base stride w origin ins a count sixteen;
 }
 
 -- DEMAND 2

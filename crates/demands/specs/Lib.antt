@@ -4,4 +4,5 @@ pub mod One
 pub mod Written
 pub mod Two
 pub mod Three
+pub mod Marks
 pub mod Rounds

@@ -35,7 +35,7 @@ use Rattle.execute.specs.Execute.{executedOf}
 use Rattle.saved.specs.File.{Held}
 use Rattle.saved.specs.Save.{saving}
 use Rattle.saved.specs.Load.{loading}
-use Rattle.demands.specs.Written.{MarksAfter}
+use Rattle.demands.specs.Written.{wrote, MarksAfter}
 
 -- ---- a register instruction that works element by element
 -- what element i receives of the entry values, and what it records
@@ -154,8 +154,12 @@ pub record OneInstruction (b : Marked) (opcode cntrl scalar base stride : ℕ) (
   pub leaves : length (b .state .elements) ≡ 1024 → (ins : Instruction) → Accepts (b .state) opcode cntrl base stride w origin ins
       → Leaves ins scalar base stride (b .state) w origin (executedOf b opcode cntrl scalar base stride w origin .left .0 .state)
       (executedOf b opcode cntrl scalar base stride w origin .left .1)
-  pub marks : length (b .marks) ≡ 16 → (ins : Instruction) → Accepts (b .state) opcode cntrl base stride w origin ins
+  pub marks : length (b .state .elements) ≡ 1024 → length (b .marks) ≡ 16 → (ins : Instruction) → Accepts (b .state) opcode cntrl base stride w origin ins
       → MarksAfter ins (b .state .control) (b .marks) (executedOf b opcode cntrl scalar base stride w origin .left .0 .marks)
+  -- the elements that it did not write are as they were
+  pub kept : length (b .state .elements) ≡ 1024 → length (b .marks) ≡ 16 → (ins : Instruction) → Accepts (b .state) opcode cntrl base stride w origin ins
+      → (r i : ℕ) → r < 16 → i < 64 → wrote ins (b .state .control) r i ≡ false
+      → at (executedOf b opcode cntrl scalar base stride w origin .left .0 .state .elements) r i ≡ at (b .state .elements) r i
 
 -- ---- Document 01, "Saved state and readings": saving and loading, into bytes with room for a file and over any state of 1,024 elements
 -- saving a state that the machine can hold is done, and loading the bytes that it wrote gives that state

@@ -31,6 +31,10 @@ wroteElement ins c i =
 unfoldable pub wrote : Instruction → Control → ℕ → ℕ → Bool
 wrote ins c r i = eqb r (ins .vc .0) && wroteElement ins c i
 
+-- the same of a step alone: its own element's, and IOTA's all
+unfoldable pub stepWrote : Instruction → ℕ → Control → ℕ → ℕ → Bool
+stepWrote ins e c r i = wrote ins c r i && (inOneStep ins || eqb i e)
+
 -- ---- the marks m after an instruction, from those before it
 -- the bit of element i of register r
 abbrev pub markOf : List ℕ → ℕ → ℕ → Bool

@@ -42,7 +42,7 @@ worked-vlr : (ins : Instruction) (scalar i : ℕ) (r : Run) → vlrOf (worked in
 unfolding worked
 worked-vlr ins scalar i r = written-vlr ins i (received ins scalar i r .value) r
 
-step-vlr : (ins : Instruction) (scalar i : ℕ) (r : Run) → vlrOf (stepOf ins scalar i r) ≡ vlrOf r
+pub step-vlr : (ins : Instruction) (scalar i : ℕ) (r : Run) → vlrOf (stepOf ins scalar i r) ≡ vlrOf r
 unfolding stepOf elementStep iotaStep
 step-vlr ins scalar i r =
     pick-vlr (inOneStep ins) _ _ r refl (pick-vlr (operated ins (r .control) i) (worked ins scalar i r) r r (worked-vlr ins scalar i r) refl)

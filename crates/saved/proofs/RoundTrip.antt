@@ -107,7 +107,7 @@ all-good (suc n) file e k h =
 
 -- ---- the elements that a file fills
 
-elements-length : (n : ℕ) (file old : List ℕ) → length (elementsIn n file old) ≡ length old
+pub elements-length : (n : ℕ) (file old : List ℕ) → length (elementsIn n file old) ≡ length old
 unfolding elementsIn
 elements-length zero file old = refl
 elements-length (suc n) file old = length-set (elementsIn n file old) n (contentsIn (recordAt file n)) ∙ elements-length n file old
