@@ -5,7 +5,7 @@ use mathlib.Core.Path.{ap₂}
 use Prim.Native.Nat.{ℕ}
 use Rattle.numbers.proofs.Tests.{pick-false}
 use Rattle.state.specs.declared.Control.{Control}
-use Rattle.state.specs.declared.answer.Answer.the-variants.{Done, Disabled, ValueRefused, OutOfRange, BadFile}
+use Rattle.state.specs.declared.answer.Answer.the-variants.{Disabled, ValueRefused, OutOfRange, BadFile}
 use Rattle.state.specs.Answer.{isDone}
 use Rattle.state.specs.Marks.{Marked, marked, allMarks}
 use Rattle.state.specs.State.{State, inRange, enabled}
@@ -57,7 +57,8 @@ run-keeps q b = either-keeps (isDone (acceptance (b .state .control) q)) (done-k
 pub order-keeps : (q : Queue) (list : List ℕ) (b : Marked) → Keeps (orderedRun q list b) b
 unfolding orderedRun
 order-keeps q list b =
-    either-keeps (isDone (acceptance (b .state .control) q)) (by (verdictOf q (b .state .control .vlr) list)) (marked-keeps (acceptance (b .state .control) q) b)
+    either-keeps (isDone (acceptance (b .state .control) q)) (by (verdictOf q (b .state .control .vlr) list))
+    (marked-keeps (acceptance (b .state .control) q) b)
   where
     by : (v : Verdict) → Keeps (byVerdict b (ranThrough q b) v) b
     by verdict.Permitted = done-keeps 0 (ranThrough q b) b

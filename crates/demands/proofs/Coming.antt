@@ -1,16 +1,11 @@
 -- The elements that have come when those below n have: of the chosen ones, those below n. Assumes nothing.
-use mathlib.Core.Bool.{Bool, true, false, _&&_, _||_, or-false}
-use mathlib.Core.Path.{_≡_, refl, sym, ap, ap₂, _∙_}
-use Prim.Native.Nat.{ℕ, zero, suc, _^_}
+use mathlib.Core.Bool.{Bool, true, false, _&&_}
+use mathlib.Core.Path.{_≡_, refl, sym, ap, _∙_}
+use Prim.Native.Nat.{ℕ, suc}
 use native.Mathlib.Omega.{arith}
-use borrow.Author.Tests.{ltb-true, ltb-false, lt-ltb, le-ltb, eq-eqb, ne-eqb}
-use lib.Bits.{bitOr}
+use borrow.Author.Tests.{ltb-true, ltb-false, lt-ltb, le-ltb}
 use lib.Dec.{ltb}
-use Rattle.numbers.specs.Bits.{bit}
-use Rattle.numbers.specs.Choice.{pick}
 use Rattle.numbers.proofs.BitLaws.{decEq}
-use Rattle.numbers.proofs.Sets.{bit-none, bit-or}
-use Rattle.numbers.proofs.Unions.{bit-one}
 
 pub and-none : (a : Bool) → (a && false) ≡ false
 and-none true = refl
@@ -47,22 +42,3 @@ module _ (on : ℕ → Bool) where
       go : Dec (i ≡ n) → come on (suc n) i ≡ come on n i
       go (yes h) = rw h (come-now n ∙ e ∙ sym (come-not n))
       go (no h) = come-before n i h
-
-  -- ---- the set of those that have come
-  unfoldable pub comeSet : ℕ → ℕ
-  comeSet zero = 0
-  comeSet (suc n) = bitOr (comeSet n) (pick (on n) (2 ^ n) 0)
-
-  pub come-bits : (n i : ℕ) → bit (comeSet n) i ≡ come on n i
-  unfolding comeSet
-  come-bits zero i = bit-none i ∙ sym (come-first i)
-  come-bits (suc n) i =
-      bit-or (comeSet n) (pick (on n) (2 ^ n) 0) i
-      ∙ ap (λ (t : Bool). t || bit (pick (on n) (2 ^ n) 0) i) (come-bits n i)
-      ∙ by (on n) refl (decEq i n)
-    where
-      by : (t : Bool) → on n ≡ t → Dec (i ≡ n) → (come on n i || bit (pick t (2 ^ n) 0) i) ≡ come on (suc n) i
-      by false e d = ap (λ (u : Bool). come on n i || u) (bit-none i) ∙ or-false (come on n i) ∙ sym (come-same n i e)
-      by true e (yes q) =
-          ap₂ (λ (u v : Bool). u || v) (ap (come on n) q ∙ come-not n) (bit-one n i ∙ eq-eqb i n q) ∙ sym (ap (come on (suc n)) q ∙ come-now n ∙ e)
-      by true e (no q) = ap (λ (u : Bool). come on n i || u) (bit-one n i ∙ ne-eqb i n q) ∙ or-false (come on n i) ∙ sym (come-before n i q)

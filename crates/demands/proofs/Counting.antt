@@ -8,7 +8,6 @@ use native.Mathlib.Omega.{arith}
 use lib.Bits.{or-zero-r}
 use lib.ListN.{length}
 use lib.Seq.{getD-set-same, getD-set-other}
-use Rattle.numbers.specs.Choice.{pick}
 use Rattle.numbers.specs.Halves.{low, withLow}
 use Rattle.numbers.proofs.Tests.{pick-true, below-or-not}
 use Rattle.state.specs.Marks.{Marked}
@@ -99,7 +98,8 @@ module _ (ins : Instruction) (scalar : ℕ) (b : Marked) (fields : Below ins) (c
     count = walked-length (b .state .control .vmr) (ins .mtf) (low scalar) (ins .vc .0) (b .state .control .vlr) (b .state .elements) ∙ count;
     vcr = end .vcr;
     counted = λ e h.
-        let t = turns (b .state .control .vmr) (ins .mtf) (low scalar) (ins .vc .0) (b .state .elements) (fields .vc) count (b .state .control .vlr) few e (rw (end .vcr) at h) in
+        let t = turns (b .state .control .vmr) (ins .mtf) (low scalar) (ins .vc .0) (b .state .elements) (fields .vc) count (b .state .control .vlr) few e
+        (rw (end .vcr) at h) in
         (t .i, t .before, t .match, t .counted, t .gets);
     others = λ r e a k past. walked-outside (b .state .control .vmr) (ins .mtf) (low scalar) (ins .vc .0) (b .state .control .vlr) (placeOf r e)
         (outside r e a k (rw (end .vcr) at past)) (b .state .elements);

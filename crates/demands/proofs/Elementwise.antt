@@ -12,6 +12,7 @@ use Rattle.numbers.specs.Bits.{bit, withBit}
 use Rattle.numbers.specs.Choice.{pick}
 use Rattle.numbers.proofs.BitLaws.{bit-replaced, bit-kept, decEq}
 use Rattle.numbers.proofs.Tests.{pick-true, pick-false}
+use Rattle.numbers.proofs.Unions.{chosenBelow, chosen-bits}
 use Rattle.state.specs.Marks.{Marked, alsoMarked, oneElement}
 use Rattle.state.specs.State.{State, state, placeOf, withVmr, vpsrInRange}
 use Rattle.state.specs.Elements.{at}
@@ -28,7 +29,7 @@ use Rattle.machine.specs.Instruction.{stepOf, stepsBelow, wholeOf, instructionD
 use Rattle.machine.proofs.Gather.{joined-nothing, joined-twice}
 use Rattle.demands.proofs.Ending.{RunEnd, ends-run, halts}
 use Rattle.demands.proofs.Placing.{places-next}
-use Rattle.demands.proofs.Coming.{and-none, and-twice, come, come-not, come-first, come-before, come-now, come-same, comeSet, come-bits}
+use Rattle.demands.proofs.Coming.{and-none, and-twice, come, come-not, come-first, come-before, come-now, come-same}
 use Rattle.demands.specs.Two.{receives, recordedBelow, recordedBy, ElementByElement}
 
 -- what a work makes of the mask bit and the elements that it is handed
@@ -70,7 +71,7 @@ module _ (ins : Instruction) (scalar : ℕ) (first : Run) (fields : Below ins) w
   writtenOn i = not (writesMask ins) && on i
 
   abbrev markedBelow : ℕ → ℕ
-  markedBelow n = comeSet writtenOn n
+  markedBelow n = chosenBelow writtenOn n
 
   -- what a step that is operated on marks
   marks-one : (n : ℕ) → on n ≡ true → pick (writtenOn n) (oneElement n) 0 ≡ wroteAt ins n
@@ -113,7 +114,7 @@ module _ (ins : Instruction) (scalar : ℕ) (first : Run) (fields : Below ins) w
 
     -- it is not operated on
     idle : on n ≡ false → Upto (suc n) r
-    unfolding recordedBelow comeSet
+    unfolding recordedBelow chosenBelow
     idle e = record {
       long = u .long;
       elements = λ p i a b. u .elements p i a b
@@ -139,7 +140,7 @@ module _ (ins : Instruction) (scalar : ℕ) (first : Run) (fields : Below ins) w
       joining = added adds (ins .vc .0) (wroteAt ins n)
 
       joins : joined (r .gathered) joining ≡ joined (first .gathered) (added (recordedBelow (suc n) ins scalar s) (ins .vc .0) (markedBelow (suc n)))
-      unfolding recordedBelow comeSet
+      unfolding recordedBelow chosenBelow
       joins =
           ap (λ (g : Gathered). joined g joining) (u .gathered)
           ∙ joined-twice (first .gathered) (recordedBelow n ins scalar s) adds (ins .vc .0) (markedBelow n) (wroteAt ins n)
@@ -219,7 +220,7 @@ module _ (ins : Instruction) (scalar : ℕ) (first : Run) (fields : Below ins) w
   -- ---- all of them
   module _ (count : length (s .elements) ≡ 1024) (alone : inOneStep ins ≡ false) where
     started : Upto 0 first
-    unfolding recordedBelow comeSet
+    unfolding recordedBelow chosenBelow
     started = record {
       long = count;
       elements = λ p i a b. sym (pick-false (wrote 0 p i) _ _ (unwritten 0 p i (come-first on i)));
@@ -253,9 +254,9 @@ module _ (ins : Instruction) (scalar : ℕ) (first : Run) (fields : Below ins) w
       is-last = rw alone
 
       -- its marks: of Vc those of the operated elements, unless it writes mask bits
-      pub marks-added : (i : ℕ) → bit (comeSet writtenOn (s .control .vlr)) i ≡ writtenOn i
+      pub marks-added : (i : ℕ) → bit (chosenBelow writtenOn (s .control .vlr)) i ≡ writtenOn i
       unfolding operated
-      marks-added i = come-bits writtenOn (s .control .vlr) i ∙ by (not (writesMask ins)) (ltb i (s .control .vlr)) _
+      marks-added i = chosen-bits writtenOn (s .control .vlr) i ∙ by (not (writesMask ins)) (ltb i (s .control .vlr)) _
         where
           by : (m a t : Bool) → (a && (m && (a && t))) ≡ (m && (a && t))
           by true true t = refl
@@ -264,7 +265,8 @@ module _ (ins : Instruction) (scalar : ℕ) (first : Run) (fields : Below ins) w
           by false false t = refl
 
       -- and the elements that it does not write are as they were
-      pub whole-kept : (p i : ℕ) → p < 16 → i < 64 → (eqb p (ins .vc .0) && writtenOn i) ≡ false → at (wholeOf ins scalar first .elements) p i ≡ at (first .elements) p i
+      pub whole-kept : (p i : ℕ) → p < 16 → i < 64 → (eqb p (ins .vc .0) && writtenOn i) ≡ false
+          → at (wholeOf ins scalar first .elements) p i ≡ at (first .elements) p i
       whole-kept p i a b e =
           ap (λ (r : Run). at (r .elements) p i) is-last
           ∙ all .elements p i a b
@@ -279,7 +281,7 @@ module _ (ins : Instruction) (scalar : ℕ) (first : Run) (fields : Below ins) w
       pub whole-long : length (wholeOf ins scalar first .elements) ≡ 1024
       whole-long = ap (λ (r : Run). length (r .elements)) is-last ∙ all .long
 
-      pub whole-marks : wholeOf ins scalar first .gathered .marks ≡ alsoMarked (first .gathered .marks) (ins .vc .0) (comeSet writtenOn (s .control .vlr))
+      pub whole-marks : wholeOf ins scalar first .gathered .marks ≡ alsoMarked (first .gathered .marks) (ins .vc .0) (chosenBelow writtenOn (s .control .vlr))
       unfolding joined
       whole-marks = ap (λ (r : Run). r .gathered .marks) is-last ∙ ap (λ (g : Gathered). g .marks) (all .gathered)
 

@@ -7,12 +7,12 @@ use mathlib.Core.Path.{_≡_, refl, sym, ap, subst, _∙_}
 use Prim.Native.Nat.{ℕ, _<_}
 use native.Mathlib.Omega.{arith}
 use borrow.Author.Tests.{eq-eqb, lt-ltb}
-use lib.ListN.{length, length-replicate, getD, getD-replicate}
+use lib.ListN.{length, length-replicate, getD-replicate}
 use Rattle.numbers.specs.Bits.{bit}
 use Rattle.numbers.specs.Choice.{pick}
 use Rattle.numbers.proofs.BitLaws.{decEq}
 use Rattle.numbers.proofs.Sets.{bit-none}
-use Rattle.numbers.proofs.Tests.{pick-true, pick-false, true-not-false}
+use Rattle.numbers.proofs.Tests.{pick-true, true-not-false}
 use Rattle.numbers.proofs.Unions.{first-bits}
 use Rattle.state.specs.Answer.{numberOf, isDone}
 use Rattle.state.specs.Elements.{at}
@@ -25,7 +25,7 @@ use Rattle.opcodes.specs.declared.Instruction.{Instruction}
 use Rattle.opcodes.specs.declared.Decoded.the-variants.{Accepted}
 use Rattle.opcodes.specs.Opcodes.{isMemory, inOneStep}
 use Rattle.opcodes.specs.Decoding.{decodedOf}
-use Rattle.machine.specs.Run.{Run, begun, finished}
+use Rattle.machine.specs.Run.{Run, begun}
 use Rattle.execute.specs.Execute.{executedOf}
 use Rattle.order.specs.declared.Verdict.{Verdict}
 use Rattle.order.specs.declared.Verdict.the-variants as verdict
@@ -44,7 +44,8 @@ use Rattle.demands.specs.Calls.{readVlr, readVcr, readVmrLow, readVmrHig
 use Rattle.demands.specs.Calls.{execute, run, runOrder, save, load, clearMarks, reading, listState, listFile, listAnswer, printRun, decode}
 use Rattle.demands.specs.Written.{wrote, markOf}
 use Rattle.demands.specs.Two.{Leaves}
-use Rattle.demands.specs.Marks.{Kind, instruction, queued, listed, file, clear, nothing, kindOf, KindWrote, Wrote, Clears, Sized, OneCall, Turn, handed, marksAfter, afterAll, NoClear, WrittenSince}
+use Rattle.demands.specs.Marks.{Kind, instruction, queued, listed, file, clear, nothing, kindOf, KindWrote}
+use Rattle.demands.specs.Marks.{Wrote, Clears, Sized, OneCall, Turn, handed, marksAfter, afterAll, NoClear, WrittenSince}
 use Rattle.demands.specs.Marks.{AllSized, Exactly, chained, NoneClears, Redraw}
 use Rattle.demands.proofs.One as one
 use Rattle.demands.proofs.Stepping.{or-split, or-one, Fit, Left, straight-left, walk-left}
@@ -203,7 +204,8 @@ module _ (q : Queue) (l : Lent) (s : Sized l) where
   unfolding called left queueRun ranThrough
   runs n =
       let a = was-accepted (outcome (Done 0) (ranThrough q b)) n in
-      let same = pick-true (isDone (acceptance (b .state .control) q)) (outcome (Done 0) (ranThrough q b)) (refusedMarked (acceptance (b .state .control) q) b) a in
+      let same = pick-true (isDone (acceptance (b .state .control) q)) (outcome (Done 0) (ranThrough q b))
+      (refusedMarked (acceptance (b .state .control) q) b) a in
       as-left (run q) (λ c. c) (straight q (size q) (begun b))
       (ap (λ (o : Outcome Marked). o .left .state .elements) same) (ap (λ (o : Outcome Marked). o .left .marks) same)
       (straight-left q (begun b) (starts-fit a) (size q))
@@ -363,7 +365,8 @@ module _ (r i : ℕ) (h : r < 16) (k : i < 64) where
       stays cs (called c l .1) (o .sized) (none .1) (o .marks r i h k .1 (none .0, inl t))
 
   -- AN ELEMENT WHOSE MARK IS ZERO
-  shows : (cs : List Call) (l : Lent) → Sized l → NoneClears cs → markOf (chained cs l .marks) r i ≡ false → at (chained cs l .elements) r i ≡ at (l .elements) r i
+  shows : (cs : List Call) (l : Lent) → Sized l → NoneClears cs → markOf (chained cs l .marks) r i ≡ false
+      → at (chained cs l .elements) r i ≡ at (l .elements) r i
   unfolding chained
   shows [] l s none e = refl
   shows (c ∷ cs) l s none e =

@@ -8,13 +8,13 @@ use native.Mathlib.Omega.{arith}
 use borrow.Author.Tests.{eq-eqb, lt-ltb}
 use lib.Bits.{bitOr, or-zero-r}
 use lib.Dec.{eqb, ltb}
-use lib.ListN.{length, length-set, getD}
+use lib.ListN.{length, length-set}
 use Rattle.numbers.specs.Bits.{bit}
 use Rattle.numbers.specs.Choice.{pick}
 use Rattle.numbers.specs.Halves.{low}
 use Rattle.numbers.specs.Rising.{rising}
-use Rattle.numbers.proofs.Tests.{pick-true, pick-false, below-or-not, true-not-false}
-use Rattle.numbers.proofs.Unions.{first-bits}
+use Rattle.numbers.proofs.Tests.{pick-true, true-not-false}
+use Rattle.numbers.proofs.Unions.{first-bits, chosenBelow}
 use Rattle.state.specs.declared.Control.{Control}
 use Rattle.state.specs.Elements.{at}
 use Rattle.state.specs.Marks.{alsoMarked, oneElement, firstElements}
@@ -26,13 +26,12 @@ use Rattle.opcodes.specs.Opcodes.{rowAt, isMemory, writesMask, inOneStep}
 use Rattle.opcodes.specs.Masking.{operated}
 use Rattle.opcodes.specs.Working.{Below}
 use Rattle.machine.specs.Run.{Run, joined}
-use Rattle.machine.specs.Iota.{matching, walked, countOf, iotaStep}
+use Rattle.machine.specs.Iota.{countOf, iotaStep}
 use Rattle.machine.specs.Instruction.{stepOf, stepsBelow, wholeOf}
 use Rattle.machine.proofs.IotaLaws.{matching-le}
 use Rattle.machine.proofs.IotaTouches.{Outside, walked-length, walked-outside}
 use Rattle.memory.specs.Move.{markStep}
 use Rattle.demands.specs.Written.{wroteElement, wrote, markOf, MarksAfter}
-use Rattle.demands.proofs.Coming.{comeSet}
 use Rattle.demands.proofs.Elementwise as elementwise
 
 -- ---- a set of Vc's elements joins the marks
@@ -47,15 +46,15 @@ joins-marks ins c m m′ which vc sixteen e is = record {
 }
 
 -- ---- the operated elements, marked one by one
-pub marks-come : (vc : ℕ) (on : ℕ → Bool) (n : ℕ) (m : List ℕ) → rising (markStep vc on) n m ≡ alsoMarked m vc (comeSet on n)
-unfolding rising markStep comeSet
+pub marks-come : (vc : ℕ) (on : ℕ → Bool) (n : ℕ) (m : List ℕ) → rising (markStep vc on) n m ≡ alsoMarked m vc (chosenBelow on n)
+unfolding rising markStep chosenBelow
 marks-come vc on zero m = sym (marks-none m vc)
 marks-come vc on (suc n) m = ap (λ (x : List ℕ). pick (on n) (alsoMarked x vc (oneElement n)) x) (marks-come vc on n m) ∙ by (on n)
   where
-    by : (t : Bool) → pick t (alsoMarked (alsoMarked m vc (comeSet on n)) vc (oneElement n)) (alsoMarked m vc (comeSet on n))
-        ≡ alsoMarked m vc (bitOr (comeSet on n) (pick t (oneElement n) 0))
-    by true = marks-twice m vc (comeSet on n) (oneElement n)
-    by false = ap (alsoMarked m vc) (sym (or-zero-r (comeSet on n)))
+    by : (t : Bool) → pick t (alsoMarked (alsoMarked m vc (chosenBelow on n)) vc (oneElement n)) (alsoMarked m vc (chosenBelow on n))
+        ≡ alsoMarked m vc (bitOr (chosenBelow on n) (pick t (oneElement n) 0))
+    by true = marks-twice m vc (chosenBelow on n) (oneElement n)
+    by false = ap (alsoMarked m vc) (sym (or-zero-r (chosenBelow on n)))
 
 -- ---- a register instruction, from the run r
 -- what it leaves of elements and marks

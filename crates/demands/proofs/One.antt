@@ -83,7 +83,8 @@ module _ (l : Lent) where
   unfolding executed
   windowed o k = record {
     number = numbered (o .answer);
-    kept = λ n. ap (λ (x : Marked × List ℕ). lent (x .0 .state .elements) (controlInto (l .control) (x .0 .state .control)) (x .0 .marks) (x .1) (l .kindRead) (l .bits))
+    kept = λ n. ap (λ (x : Marked × List ℕ). lent (x .0 .state .elements) (controlInto (l .control) (x .0 .state .control)) (x .0 .marks) (x .1)
+        (l .kindRead) (l .bits))
         (k .kept (ne-eqb (numberOf (o .answer)) 0 n))
         ∙ ap (λ (c : List ℕ). lent (l .elements) c (l .marks) (l .bytes) (l .kindRead) (l .bits)) (stored-back (l .control));
   }

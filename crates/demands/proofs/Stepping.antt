@@ -1,5 +1,5 @@
 -- What a step, a queue run straight through and a list of its steps mark and keep, from any run. Assumes nothing.
-use mathlib.Core.Bool.{Bool, true, false, not, _&&_, _||_, or-false}
+use mathlib.Core.Bool.{Bool, true, false, _&&_, _||_, or-false}
 use mathlib.Core.List.{List, [], _∷_}
 use mathlib.Core.Logic.{_⊎_, _↔_, inl, inr}
 use mathlib.Core.Path.{_≡_, refl, sym, ap, ap₂, _∙_}
@@ -13,7 +13,7 @@ use Rattle.numbers.specs.Bits.{bit, withBit}
 use Rattle.numbers.specs.Choice.{pick}
 use Rattle.numbers.proofs.BitLaws.{decEq}
 use Rattle.numbers.proofs.Sets.{bit-none}
-use Rattle.numbers.proofs.Tests.{pick-true, pick-false, true-not-false}
+use Rattle.numbers.proofs.Tests.{true-not-false}
 use Rattle.numbers.proofs.Unions.{bit-one}
 use Rattle.state.specs.Elements.{at}
 use Rattle.state.specs.Marks.{alsoMarked, oneElement}
@@ -34,8 +34,8 @@ use Rattle.touch.specs.Parts.{Queue, instructionAt, scalarAt}
 use Rattle.touch.specs.Touch.{act}
 use Rattle.touch.proofs.Steps.{at-below}
 use Rattle.queue.specs.Queue.{straight}
-use Rattle.queue.proofs.Through.{at-runs, whole-short, step-vlr}
-use Rattle.demands.specs.Written.{wroteElement, wrote, stepWrote, markOf, MarksAfter}
+use Rattle.queue.proofs.Through.{at-runs, whole-short}
+use Rattle.demands.specs.Written.{wrote, stepWrote, markOf}
 use Rattle.demands.proofs.MarksOf.{Wrote, whole-wrote, is-step}
 
 pub or-split : (a b : Bool) → (a || b) ≡ true → (a ≡ true) ⊎ (b ≡ true)

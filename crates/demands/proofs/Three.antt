@@ -71,7 +71,8 @@ module _ (b : Marked) (ranged : inRange (b .state .control) ≡ true) (on : enab
   unfolding ranThrough straight ended
   leaves = ap (λ (v : ℕ). marked (state (b .state .elements) (withVaer (b .state .control) v)) (b .marks)) (or-zero-r (b .state .control .vaer))
 
-  empty : pick (isDone (acceptance (b .state .control) emptyQueue)) (outcome (Done 0) (ranThrough emptyQueue b)) (refusedMarked (acceptance (b .state .control) emptyQueue) b)
+  empty : pick (isDone (acceptance (b .state .control) emptyQueue)) (outcome (Done 0) (ranThrough emptyQueue b))
+      (refusedMarked (acceptance (b .state .control) emptyQueue) b)
       ≡ outcome (Done 0) b
   empty =
       pick-true (isDone (acceptance (b .state .control) emptyQueue)) _ (refusedMarked (acceptance (b .state .control) emptyQueue) b) (ap isDone accepts)

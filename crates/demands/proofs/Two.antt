@@ -11,6 +11,7 @@ use lib.ListN.{length, getD}
 use Rattle.numbers.specs.Choice.{pick}
 use Rattle.numbers.proofs.Sets.{bit-none}
 use Rattle.numbers.proofs.Tests.{true-not-false, and-left, pick-true, pick-false}
+use Rattle.numbers.proofs.Unions.{chosenBelow, chosen-bits}
 use Rattle.state.specs.declared.Control.{Control}
 use Rattle.state.specs.declared.answer.Answer.the-variants.{Done, OutOfRange}
 use Rattle.state.specs.Answer.{isDone}
@@ -41,7 +42,7 @@ use Rattle.saved.proofs.Saving.{saves-done}
 use Rattle.saved.proofs.RoundTrip.{loads-again, saves-again}
 use Rattle.demands.specs.Two.{placeIn, bytesEach, Inside, Loaded, Stored, Accepts, Leaves, OneInstruction, DemandTwo}
 use Rattle.demands.specs.Written.{wroteElement, wrote, MarksAfter}
-use Rattle.demands.proofs.Coming.{and-twice, come, comeSet, come-bits}
+use Rattle.demands.proofs.Coming.{and-twice, come}
 use Rattle.demands.proofs.MarksOf.{joins-marks, marks-come, Wrote, whole-wrote}
 use Rattle.demands.proofs.Elementwise as elementwise
 use Rattle.demands.proofs.Counting as counting
@@ -71,10 +72,12 @@ module _ (ins : Instruction) (base stride : ℕ) (b : Marked) (origin : ℕ) (w 
     -- it moved elements, or bytes
     abbrev moves : Bool → List ℕ × List ℕ × List ℕ
     moves store =
-        movesBy store (isQuadword (ins .work)) (ins .vc .0) (operated ins (b .state .control)) (placeIn ins base stride (b .state) origin) (b .state .control .vlr)
+        movesBy store (isQuadword (ins .work)) (ins .vc .0) (operated ins (b .state .control)) (placeIn ins base stride (b .state) origin)
+        (b .state .control .vlr)
         (b .state .elements) (b .marks) w
 
-    moved : (store : Bool) → isStore (ins .work) ≡ store → movedOf b ins base stride w origin .left ≡ (marked (state (moves store .0) (b .state .control)) (moves store .1), moves store .2)
+    moved : (store : Bool) → isStore (ins .work) ≡ store
+        → movedOf b ins base stride w origin .left ≡ (marked (state (moves store .0) (b .state .control)) (moves store .1), moves store .2)
     moved store e = rw (← e) (told .moved)
 
     loads : ins .vc .0 < 16 → length (b .state .elements) ≡ 1024 → b .state .control .vlr ≤ 64 → isStore (ins .work) ≡ false
@@ -83,7 +86,8 @@ module _ (ins : Instruction) (base stride : ℕ) (b : Marked) (origin : ℕ) (w 
         let m = moved false e in
         let gets : ℕ → ℕ → ℕ =
         λ r i. received (isQuadword (ins .work)) (at (b .state .elements) r i) (numberAt (bytesEach ins) w (placeIn ins base stride (b .state) origin i)) in
-        let u = loaded (isQuadword (ins .work)) (ins .vc .0) (operated ins (b .state .control)) (placeIn ins base stride (b .state) origin) w (b .state .elements) register count
+        let u = loaded (isQuadword (ins .work)) (ins .vc .0) (operated ins (b .state .control)) (placeIn ins base stride (b .state) origin) w
+        (b .state .elements) register count
         (b .state .control .vlr) few in
         record {
           count = ap (λ (x : Marked × List ℕ). length (x .0 .state .elements)) m ∙ u .long;
@@ -93,7 +97,8 @@ module _ (ins : Instruction) (base stride : ℕ) (b : Marked) (origin : ℕ) (w 
           window = ap (λ (x : Marked × List ℕ). x .1) m;
         }
 
-    fit : (i : ℕ) → i < b .state .control .vlr → operated ins (b .state .control) i ≡ true → placeIn ins base stride (b .state) origin i + bytesEach ins ≤ length w
+    fit : (i : ℕ) → i < b .state .control .vlr → operated ins (b .state .control) i ≡ true
+        → placeIn ins base stride (b .state) origin i + bytesEach ins ≤ length w
     fit i h e = inside i e .to
 
     stores : isStore (ins .work) ≡ true
@@ -103,13 +108,16 @@ module _ (ins : Instruction) (base stride : ℕ) (b : Marked) (origin : ℕ) (w 
         let q = isQuadword (ins .work) in
         record {
           bytes = λ i k c h later. ap (λ (x : Marked × List ℕ). getD (x .1) (placeIn ins base stride (b .state) origin i + k) 0) m
-              ∙ stored-bytes q (ins .vc .0) (operated ins (b .state .control)) (placeIn ins base stride (b .state) origin) w (b .state .elements) (b .state .control .vlr) fit i k
+              ∙ stored-bytes q (ins .vc .0) (operated ins (b .state .control)) (placeIn ins base stride (b .state) origin) w (b .state .elements)
+              (b .state .control .vlr) fit i k
               (below ins (b .state .control) i c) c h (λ j a _. later j a);
           others = λ k misses. ap (λ (x : Marked × List ℕ). getD (x .1) k 0) m
-              ∙ stored-others q (ins .vc .0) (operated ins (b .state .control)) (placeIn ins base stride (b .state) origin) w (b .state .elements) (b .state .control .vlr) fit k
+              ∙ stored-others q (ins .vc .0) (operated ins (b .state .control)) (placeIn ins base stride (b .state) origin) w (b .state .elements)
+              (b .state .control .vlr) fit k
               (λ i h. misses i);
           length = ap (λ (x : Marked × List ℕ). length (x .1)) m
-              ∙ stored-length q (ins .vc .0) (operated ins (b .state .control)) (placeIn ins base stride (b .state) origin) w (b .state .elements) (b .state .control .vlr) fit;
+              ∙ stored-length q (ins .vc .0) (operated ins (b .state .control)) (placeIn ins base stride (b .state) origin) w (b .state .elements)
+              (b .state .control .vlr) fit;
           state = ap (λ (x : Marked × List ℕ). x .0 .state) m;
         }
 
@@ -173,7 +181,8 @@ module _ (b : Marked) (opcode cntrl scalar base stride : ℕ) (w : List ℕ) (or
   unfolding executedOf
   was-accepted = by (inRange (b .state .control)) refl
     where
-      by : (t : Bool) → inRange (b .state .control) ≡ t → isDone (pick t made (refusedWindow OutOfRange b w) .answer) ≡ true → (ins : Instruction) × Accepted-as ins
+      by : (t : Bool) → inRange (b .state .control) ≡ t → isDone (pick t made (refusedWindow OutOfRange b w) .answer) ≡ true
+          → (ins : Instruction) × Accepted-as ins
       by true r done = decoded-accepts r (enabled (b .state .control)) refl (decodedOf (enabled (b .state .control)) false 0 opcode cntrl) refl done
       by false r done = let z : _≡_ {A = ℕ} 0 1 = cc in absurd (omega arith)
 
@@ -240,10 +249,10 @@ module _ (b : Marked) (opcode cntrl scalar base stride : ℕ) (w : List ℕ) (or
         -- a load's are those of the operated elements
         load-marks : isMemory (ins .work) ≡ true → isStore (ins .work) ≡ false → After (movedOf b ins base stride w origin)
         load-marks m e =
-            joins-marks ins (b .state .control) (b .marks) _ (comeSet (operated ins (b .state .control)) (b .state .control .vlr)) (fields .vc) sixteen
+            joins-marks ins (b .state .control) (b .marks) _ (chosenBelow (operated ins (b .state .control)) (b .state .control .vlr)) (fields .vc) sixteen
             (ap (λ (x : Marked × List ℕ). x .0 .marks) (moved ins base stride b origin w (ap isDone (moves-done m)) false e)
             ∙ marks-come (ins .vc .0) (operated ins (b .state .control)) (b .state .control .vlr) (b .marks))
-            (λ i. come-bits (operated ins (b .state .control)) (b .state .control .vlr) i ∙ every ins (b .state .control) i ∙ rw (m, e) refl)
+            (λ i. chosen-bits (operated ins (b .state .control)) (b .state .control .vlr) i ∙ every ins (b .state .control) i ∙ rw (m, e) refl)
 
         store-marks : isMemory (ins .work) ≡ true → isStore (ins .work) ≡ true → After (movedOf b ins base stride w origin)
         store-marks m e =
@@ -271,7 +280,8 @@ module _ (b : Marked) (opcode cntrl scalar base stride : ℕ) (w : List ℕ) (or
 
         load-kept : isMemory (ins .work) ≡ true → isStore (ins .work) ≡ false → Keeps executed
         unfolding wrote
-        load-kept m e r i h k none = leaves .loads m e .elements r i h k ∙ pick-false (eqb r (ins .vc .0) && operated ins (b .state .control) i) _ _ (same ∙ none)
+        load-kept m e r i h k none = leaves .loads m e .elements r i h k
+            ∙ pick-false (eqb r (ins .vc .0) && operated ins (b .state .control) i) _ _ (same ∙ none)
           where
             same : (eqb r (ins .vc .0) && operated ins (b .state .control) i) ≡ (eqb r (ins .vc .0) && wroteElement ins (b .state .control) i)
             same = rw (m, e) refl

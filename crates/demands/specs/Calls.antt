@@ -49,8 +49,8 @@ pub data Call : Type 0 where
   printRun : (input : List ℕ) → Call
   decode : (enabled queued : Bool) → (position opcode cntrl : ℕ) → Call
 
--- what it may alter: the state, elements and five numbers; the marks beside it; lent bytes, which are an instruction's window, a file to save into, or room for
--- a text; *kind_read and *bits of a reading. What stands beside the number is not among it
+-- what it may alter: the state, elements and five numbers; the marks beside it; lent bytes, which are an instruction's window, a file to save into, or
+-- room for a text; *kind_read and *bits of a reading. What stands beside the number is not among it
 pub record Lent : Type 0 where
   pub elements : List ℕ
   pub control : List ℕ

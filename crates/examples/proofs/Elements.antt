@@ -3,7 +3,7 @@ use mathlib.Core.List.{List, [], _∷_, _++_}
 use Prim.Native.Nat.{ℕ}
 use lib.ListN.{replicate}
 use Rattle.demands.specs.Calls.{Lent, lent}
-use Rattle.examples.proofs.Rows.{Row, Cell, v, enabled, masked, control, stopped, state, done, operate, three, becomes, gives, records}
+use Rattle.examples.proofs.Rows.{Row, Cell, v, enabled, masked, control, stopped, state, done, operate, three, gives, records}
 
 -- V1 = 1, 2, 3 and V2 = 10, 20, 30, in hex, and V3
 abbrev with-3 : (c d e : ℕ) → List ℕ → Lent
@@ -28,7 +28,7 @@ masks =
 
 -- ---- VLR 64: all of V1 is 1, all of V2 is 2, and V3
 abbrev all : (c : List ℕ) → List ℕ → Lent
-all c numbers = lent (replicate 64 0 ++ replicate 64 1 ++ replicate 64 2 ++ c ++ replicate 768 0) numbers [] 0 0
+all c numbers = lent (replicate 64 0 ++ replicate 64 1 ++ replicate 64 2 ++ c ++ replicate 768 0) numbers [] [] 0 0
 
 abbrev pub lengths : List Row
 lengths =

@@ -7,6 +7,7 @@ pub mod Memory
 pub mod Controls
 pub mod Numbers
 pub mod Queues
+pub mod Marks
 pub mod Readings
 pub mod Table
 pub mod OpcodeTable

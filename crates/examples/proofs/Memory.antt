@@ -4,7 +4,7 @@ use mathlib.Core.List.{List, [], _∷_}
 use Prim.Native.Nat.{ℕ}
 use lib.ListN.{replicate}
 use Rattle.demands.specs.Calls.{Lent}
-use Rattle.examples.proofs.Rows.{Row, v, window, enabled, masked, state, stateAnd, done, refuses, operate, move}
+use Rattle.examples.proofs.Rows.{Row, v, window, enabled, masked, stateAnd, done, refuses, move}
 
 -- V1 = A_00000001, B_00000002 and V2 = 8, 0, with high halves, and bytes
 abbrev with-1 : (a b : ℕ) → List ℕ → List ℕ → Lent

@@ -8,7 +8,7 @@ use Rattle.examples.proofs.Rows.{Row, puts, v, holding, enabled, contro
 
 -- V15[63] holds a word, and *kind_read and *bits are these
 abbrev word : (w kind bits : ℕ) → Lent
-word w kind bits = lent (holding (v 15 63 w ∷ [])) (enabled 1) [] kind bits
+word w kind bits = lent (holding (v 15 63 w ∷ [])) (enabled 1) [] [] kind bits
 
 -- a reading of it, over *kind_read 9 and *bits A5
 abbrev shows : (kind w kindRead bits : ℕ) → Row
@@ -44,7 +44,7 @@ readings =
     ∷ refusesField 16 63 0
     ∷ refusesField 15 64 0
     ∷ refusesField 0 1023 0
-    ∷ done (reading 1 2 1) (lent (holding (v 1 2 5 ∷ v 2 1 6 ∷ [])) (enabled 1) [] 0 0) (lent (holding (v 1 2 5 ∷ v 2 1 6 ∷ [])) (enabled 1) [] 1 5)
+    ∷ done (reading 1 2 1) (lent (holding (v 1 2 5 ∷ v 2 1 6 ∷ [])) (enabled 1) [] [] 0 0) (lent (holding (v 1 2 5 ∷ v 2 1 6 ∷ [])) (enabled 1) [] [] 1 5)
     ∷ []
 
 -- a file's record: its number, a filler byte and its contents, of which two bytes may not be zero, before other records

@@ -76,12 +76,23 @@ masked vlr vmr = control vlr vmr 0 0 1
 abbrev pub stopped : (vlr vaer : ℕ) → List ℕ
 stopped vlr vaer = control vlr 0 0 vaer 0x80
 
--- the state alone, and the state and bytes
+-- the state alone, and the state and bytes; marks are lent where a row says so
 abbrev pub state : List Cell → List ℕ → Lent
-state cells numbers = lent (holding cells) numbers [] 0 0
+state cells numbers = lent (holding cells) numbers [] [] 0 0
 
 abbrev pub stateAnd : List Cell → List ℕ → List ℕ → Lent
-stateAnd cells numbers bytes = lent (holding cells) numbers bytes 0 0
+stateAnd cells numbers bytes = lent (holding cells) numbers [] bytes 0 0
+
+-- these marks beside it
+abbrev pub with : List ℕ → Lent → Lent
+with marks l = lent (l .elements) (l .control) marks (l .bytes) (l .kindRead) (l .bits)
+
+-- marks of every register, A4: elements 2, 5 and 7 are marked; and those where register r has others
+abbrev pub a4 : List ℕ
+a4 = replicate 16 0xA4
+
+abbrev pub a4But : (r word : ℕ) → List ℕ
+a4But r word = set a4 r word
 
 -- ---- rows: a call that is done; one that reads a value; a refused one, which leaves all as it was
 abbrev pub done : Call → (start end : Lent) → Row
@@ -91,7 +102,14 @@ abbrev pub reads : Call → Lent → (value : ℕ) → Row
 reads call start value = puts call start (0, value) start
 
 abbrev pub refuses : Call → Lent → (number beside : ℕ) → Row
-refuses call start number beside = puts call start (number, beside) start
+refuses call start number beside = puts call (with a4 start) (number, beside) (with a4 start)
+
+-- one that is done and marks elements of register r, whose word is A4 before; and one that marks none
+abbrev pub marks : (r word : ℕ) → Call → (start end : Lent) → Row
+marks r word call start end = done call (with a4 start) (with (a4But r word) end)
+
+abbrev pub marksNone : Call → (start end : Lent) → Row
+marksNone call start end = done call (with a4 start) (with a4 end)
 
 -- ---- one instruction without memory, and with it
 abbrev pub operate : (opcode cntrl scalar : ℕ) → Call
@@ -104,9 +122,9 @@ move opcode cntrl base stride origin = execute opcode cntrl 0 base stride origin
 abbrev pub three : (a b c : ℕ) → List Cell
 three a b c = v 1 0 a ∷ v 2 0 b ∷ v 3 0 c ∷ []
 
--- V1[0] is a, V2[0] is b, and V3[0], which was c, becomes r; nothing is recorded
+-- V1[0] is a, V2[0] is b, and V3[0], which was c, becomes r, and is marked; nothing is recorded
 abbrev pub becomes : (opcode cntrl scalar a b c r : ℕ) → Row
-becomes opcode cntrl scalar a b c r = done (operate opcode cntrl scalar) (state (three a b c) (enabled 1)) (state (three a b r) (enabled 1))
+becomes opcode cntrl scalar a b c r = marks 3 0xA5 (operate opcode cntrl scalar) (state (three a b c) (enabled 1)) (state (three a b r) (enabled 1))
 
 -- with no scalar, and a V3[0] that was zero
 abbrev pub gives : (opcode cntrl a b r : ℕ) → Row
@@ -114,7 +132,7 @@ gives opcode cntrl a b r = becomes opcode cntrl 0 a b 0 r
 
 -- the same, and VAER gets these bits and the processor stops
 abbrev pub records : (opcode cntrl a b r vaer : ℕ) → Row
-records opcode cntrl a b r vaer = done (operate opcode cntrl 0) (state (three a b 0) (enabled 1)) (state (three a b r) (stopped 1 vaer))
+records opcode cntrl a b r vaer = marks 3 0xA5 (operate opcode cntrl 0) (state (three a b 0) (enabled 1)) (state (three a b r) (stopped 1 vaer))
 
 -- ---- a queue of two
 abbrev pub two : (opcode cntrl opcode' cntrl' : ℕ) → Queue

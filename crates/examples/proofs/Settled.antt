@@ -10,7 +10,7 @@ use Rattle.examples.proofs.Rows.{done, refuses, operate, move, becomes,
 
 -- 1's registers: V2 = 7FFFFFFF, 4, and V5 of these two and then 9
 abbrev with-5 : (a b : ℕ) → List ℕ → Lent
-with-5 a b numbers = lent (replicate 128 0 ++ (0x7FFFFFFF ∷ 4 ∷ replicate 190 0) ++ (a ∷ b ∷ replicate 62 9) ++ replicate 640 0) numbers [] 0 0
+with-5 a b numbers = lent (replicate 128 0 ++ (0x7FFFFFFF ∷ 4 ∷ replicate 190 0) ++ (a ∷ b ∷ replicate 62 9) ++ replicate 640 0) numbers [] [] 0 0
 
 -- 11's window of four bytes, and a mask that chooses element 1
 abbrev with-11 : List Cell → Lent

@@ -1,5 +1,5 @@
 -- THE TABLE of examples, and the one statement over all of its rows, by computation. Assumes nothing.
-use mathlib.Core.Path.{_≡_, refl}
+use mathlib.Core.Path.{refl}
 use mathlib.Core.List.{List, _++_}
 use lib.Ieee.{size}
 use Rattle.numbers.specs.Signed.{signed, low32, overflows, negative, isZero}
@@ -23,7 +23,7 @@ use Rattle.machine.specs.Iota.{matching, turned, walked, iotaStep}
 use Rattle.machine.specs.Instruction.{stepOf, stepsBelow, wholeOf, instructionDone}
 use Rattle.memory.specs.Window.{allowed}
 use Rattle.memory.specs.Address.{testOf, testStep}
-use Rattle.memory.specs.Move.{loadStep, storeStep, movedOf}
+use Rattle.memory.specs.Move.{loadStep, markStep, storeStep, movedOf}
 use Rattle.execute.specs.Execute.{carriedOut, executedOf}
 use Rattle.order.specs.Steps.{passing}
 use Rattle.order.specs.Order.{has, each, ready, ok, checkFrom, check}
@@ -33,7 +33,7 @@ use Rattle.queue.specs.Queue.{atPosition, positions, acceptance, straight}
 use Rattle.queue.specs.Run.{ranThrough, verdictOf, queueRun, orderedRun}
 use Rattle.saved.specs.File.{contentsOf, recordBytes, records, fileOf}
 use Rattle.saved.specs.Save.{saving}
-use Rattle.saved.specs.Load.{contentsInRange, goodPart, goodRecord, leading, accepted, loading}
+use Rattle.saved.specs.Load.{contentsInRange, goodPart, goodRecord, leading, accepted, loading, loadingMarked}
 use Rattle.listing.specs.Text.{digitOf, digits, decimals, widthOf, line, elementLine, elementText, elementLines, controlLines, listing, badLine, answerLine}
 use Rattle.listing.specs.Text.{listed, printed, stateListed}
 use Rattle.running.specs.Runner.{inputRun, blank, textOf}
@@ -48,6 +48,7 @@ use Rattle.examples.proofs.Memory.{windows, elements}
 use Rattle.examples.proofs.Controls.{moves, settings, ranges}
 use Rattle.examples.proofs.Numbers.{numbers, orders}
 use Rattle.examples.proofs.Queues.{queues, lists, touches}
+use Rattle.examples.proofs.Marks.{marksOne, marksMany}
 use Rattle.examples.proofs.Readings.{readings, files, texts}
 
 -- ---- the further rows, for rules that no example guards
@@ -65,6 +66,8 @@ further =
     ++ numbers ++ orders
     -- "Queues and orders": queues, faults of a list, and each line of what a step touches
     ++ queues ++ lists ++ touches
+    -- document 02, "Which elements were written"
+    ++ marksOne ++ marksMany
     -- "Saved state and readings"
     ++ readings
 
@@ -79,17 +82,17 @@ table = (settled ++ further) ++ whole
 -- each part by computation; a row that does not hold is found by leaving others out
 settled-hold : Holds (settled ++ further)
 unfolding called controlOf controlInto left executed fieldRead readWhen writeWhen vpsrTaken fieldAnswer inRange afterRefusal
-    saving loading accepted leading goodRecord goodPart contentsInRange
+    saving loading loadingMarked accepted leading goodRecord goodPart contentsInRange
     executedOf carriedOut opcodeOf decodedOf refused controlWordOf rowAt rowOf workAt
     instructionDone wholeOf stepsBelow stepOf elementStep operated worked received resultOf written joined ended notes iotaStep walked turned matching
     sumOf differenceOf productOf signed low32 overflows negative isZero relationHolds delivered rounded size
-    movedOf allowed rising testOf testStep loadStep storeStep
+    movedOf allowed rising testOf testStep loadStep markStep storeStep
     queueRun orderedRun acceptance positions atPosition ranThrough straight instructionAt
     verdictOf check checkFrom ok ready each has mustPrecede conflict meet reads writes below stepsOf passing isStep
 settled-hold = refl
 
 whole-hold : Holds whole
-unfolding called controlOf controlInto left inRange afterRefusal saving loading accepted leading goodRecord goodPart contentsInRange
+unfolding called controlOf controlInto left inRange afterRefusal saving loading loadingMarked accepted leading goodRecord goodPart contentsInRange
     contentsOf recordBytes records fileOf
     stateListed listed printed listing elementLines elementText elementLine controlLines line digits digitOf widthOf decimals badLine answerLine
     inputRun blank textOf

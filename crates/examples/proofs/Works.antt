@@ -1,7 +1,8 @@
 -- Further rows: each of the 40 opcodes, with a result that no other work and no other form would give; and what an opcode or a control word says.
 use mathlib.Core.List.{List, [], _∷_}
 use Prim.Native.Nat.{ℕ}
-use Rattle.examples.proofs.Rows.{Row, v, enabled, masked, control, state, stateAnd, done, refuses, operate, move, three, becomes, gives}
+use Rattle.examples.proofs.Rows.{Row, enabled, masked, control, state, stateAnd, done}
+use Rattle.examples.proofs.Rows.{refuses, marks, marksNone, operate, move, three, becomes, gives}
 
 -- V1[0] is 6, V2[0] is 80000103, V3[0] is 9 and the scalar 11, each with a high half of its own
 abbrev longwords : (opcode r : ℕ) → Row
@@ -13,7 +14,7 @@ floats opcode r = becomes opcode 0x0123 0xD_0000_41A0 0xA_0000_4140 0xB_0000_410
 
 -- the mask bit of V1[0], or the scalar, and V2[0], by the relation in the control word
 abbrev compares : (opcode cntrl scalar a b bit : ℕ) → Row
-compares opcode cntrl scalar a b bit = done (operate opcode cntrl scalar) (state (three a b 0) (enabled 1)) (state (three a b 0) (masked 1 bit))
+compares opcode cntrl scalar a b bit = marksNone (operate opcode cntrl scalar) (state (three a b 0) (enabled 1)) (state (three a b 0) (masked 1 bit))
 
 -- 01 to 10 from address 100 on; base 100, V2[0] is 8 with a high half, and V3[0] is C_00000009
 abbrev bytes : List ℕ
@@ -21,12 +22,12 @@ bytes = 1 ∷ 2 ∷ 3 ∷ 4 ∷ 5 ∷ 6 ∷ 7 ∷ 8 ∷ 9 ∷ 10 ∷ 11 ∷ 12 �
 
 abbrev loads : (opcode r : ℕ) → Row
 loads opcode r =
-    done (move opcode 0x0023 0x100 0 0x100) (stateAnd (three 0 0x7_0000_0008 0xC_0000_0009) (enabled 1) bytes)
+    marks 3 0xA5 (move opcode 0x0023 0x100 0 0x100) (stateAnd (three 0 0x7_0000_0008 0xC_0000_0009) (enabled 1) bytes)
     (stateAnd (three 0 0x7_0000_0008 r) (enabled 1) bytes)
 
 abbrev stores : (opcode : ℕ) → (end : List ℕ) → Row
 stores opcode end =
-    done (move opcode 0x0023 0x100 0 0x100) (stateAnd (three 0 0x7_0000_0008 0xC_0000_0009) (enabled 1) bytes)
+    marksNone (move opcode 0x0023 0x100 0 0x100) (stateAnd (three 0 0x7_0000_0008 0xC_0000_0009) (enabled 1) bytes)
     (stateAnd (three 0 0x7_0000_0008 0xC_0000_0009) (enabled 1) end)
 
 -- document 01, "Opcodes", line by line
@@ -70,7 +71,7 @@ opcodes =
     ∷ compares 0xC4 0x0122 0xD_0000_C080 0x4140 0x4080 0
     -- convert, L to F, of 3; IOTA's first element, V3[0], is 0, and VCR 1; merge with a mask bit that is MTF, 0: all 64 bits of V1[0] or the scalar
     ∷ becomes 0xEC 0x0123 0xD_0000_0011 0xA_0000_0006 0xB_0000_0003 0xC_0000_0009 0xC_0000_4140
-    ∷ done (operate 0xED 0x0123 0xD_0000_0011) (state (three 6 7 0xC_0000_0009) (enabled 1)) (state (three 6 7 0xC_0000_0000) (control 1 0 1 0 1))
+    ∷ marks 3 0xA5 (operate 0xED 0x0123 0xD_0000_0011) (state (three 6 7 0xC_0000_0009) (enabled 1)) (state (three 6 7 0xC_0000_0000) (control 1 0 1 0 1))
     ∷ longwords 0xEE 0xA_0000_0006
     ∷ longwords 0xEF 0xD_0000_0011
     -- load L Q, from 100; gather L Q, from 108

@@ -11,7 +11,7 @@ use Rattle.numbers.specs.Rising.{rising}
 use Rattle.numbers.proofs.BitLaws.{bit-complement}
 use Rattle.numbers.proofs.SetBits.{ones-carry}
 use Rattle.numbers.proofs.Unions.{joins, beside}
-use Rattle.numbers.proofs.Tests.{pick-true, pick-false}
+use Rattle.numbers.proofs.Tests.{pick-false}
 use Rattle.state.specs.declared.Control.{Control}
 use Rattle.state.specs.State.{placeOf}
 use Rattle.state.specs.Elements.{at, matches}

@@ -83,7 +83,8 @@ module _ (store quadword : Bool) (vc which : ℕ) (place : ℕ → ℕ) (b : Mar
     every l′ m′ w′ f =
         tells search.Fine e _
         (ap (unlessBad search.Fine b w)
-        (f ∙ moves-agree quadword vc (bit which) (λ (k : ℕ). getD addresses k 0) place 64 (b .state .elements) (b .marks) w (λ i _ c. found .kept e i c) store))
+        (f ∙ moves-agree quadword vc (bit which) (λ (k : ℕ). getD addresses k 0) place 64 (b .state .elements) (b .marks) w
+        (λ i _ c. found .kept e i c) store))
 
     pub lie-within : AllWithin (sizeOf quadword) (length w) (bit which) (λ (k : ℕ). getD addresses k 0) 64
     lie-within i h c = rw (found .kept e i c) (within (sizeOf quadword) (length w) (place i) (all-fine (bit which) tests 64 i (sym (found .told) ∙ e) h c))
@@ -105,7 +106,8 @@ module _ (b : Marked) (ins : Instruction) (base stride : ℕ) (w : List ℕ) (or
         → (store quadword : Bool) → store ≡ isStore (ins .work) → quadword ≡ isQuadword (ins .work)
         → (vc : ℕ) → vc ≡ ins .vc .0
         → (m : Outcome (Marked × List ℕ))
-        → m ≡ movedBy store quadword vc (bit which) (testsAt (sizeOf quadword) (length w) (addressIn a (b .state .elements))) (addressIn a (b .state .elements)) 64 b w
+        → m ≡ movedBy store quadword vc (bit which) (testsAt (sizeOf quadword) (length w) (addressIn a (b .state .elements)))
+        (addressIn a (b .state .elements)) 64 b w
         → m ≡ movedOf b ins base stride w origin
     unfolding movedOf operated
     done a offsets begins strides vb short which chosen store quadword es eq vc ev m e =
@@ -116,7 +118,8 @@ module _ (b : Marked) (ins : Instruction) (base stride : ℕ) (w : List ℕ) (or
         (λ i. sym (here i))
         (λ i h. here i ∙ none-past ins (b .state .control .vlr) (b .state .control .vmr) which chosen i h)
         store quadword vc b w in
-        let r = relative store quadword origin vc (operated ins (b .state .control)) (addressOf ins base stride (b .state .elements)) (addressIn a (b .state .elements))
+        let r = relative store quadword origin vc (operated ins (b .state .control)) (addressOf ins base stride (b .state .elements))
+        (addressIn a (b .state .elements))
         (b .state .control .vlr) b w
         (origin-straight (length w) origin g) ends-in-time
         (λ i. rw (← offsets, ← strides, ← vb) (addresses-from origin base (a .base) begins (a .offsets) (a .stride) (b .state .elements) (a .vb .0) i)) in

@@ -1,5 +1,5 @@
--- A memory instruction that is refused leaves the state, the marks and the window as they were. It is done exactly where the window is allowed and every operated
--- element is aligned and lies in it; then it has moved them. Assumes nothing.
+-- A memory instruction that is refused leaves the state, the marks and the window as they were. It is done exactly where the window is allowed and every
+-- operated element is aligned and lies in it; then it has moved them. Assumes nothing.
 use mathlib.Core.Bool.{Bool, true, false, _&&_}
 use mathlib.Core.Path.{_≡_, refl, ap, ap₂, _∙_}
 use mathlib.Core.List.{List}
@@ -124,7 +124,8 @@ module _ (b : Marked) (ins : Instruction) (base stride : ℕ) (w : List ℕ) (or
           let fine : verdict ≡ search.Fine = fine-unless verdict moves d in
           record {
             window = e;
-            fit = λ i h c. fits size origin (origin + length w) (address i) (all-fine (operated ins (b .state .control)) tests (b .state .control .vlr) i fine h c);
+            fit = λ i h c. fits size origin (origin + length w) (address i)
+                (all-fine (operated ins (b .state .control)) tests (b .state .control .vlr) i fine h c);
             moved = ap (λ (t : Bool). pick t (unlessBad verdict b w moves) (refusedWindow WindowRefused b w) .left) e
                 ∙ ap (λ (a : Search). unlessBad a b w moves .left) fine;
           }

@@ -5,7 +5,7 @@ use mathlib.Core.Logic.{_⊎_, inl, inr}
 use Prim.Native.Nat.{ℕ, zero, suc, _+_, _-_, _*_, _%_, _^_, _≤_, _<_}
 use native.Mathlib.Nat.{zero-div}
 use native.Mathlib.Omega.{arith}
-use lib.Bits.{bitOr, or-zero-l}
+use lib.Bits.{bitOr, or-zero-r}
 use lib.Dec.{eqb, ltb}
 use lib.Pow.{pow-pos}
 use borrow.Author.Tests.{eq-eqb, ne-eqb, lt-ltb, le-ltb}
@@ -52,49 +52,66 @@ first-ones w n fits =
     at k (inl h) = rw (lt-ltb k n h, lt-ltb k w (omega arith))
     at k (inr h) = rw (le-ltb k n h)
 
--- ---- a set, gathered one element at a time
+-- ---- the set of the chosen numbers below n, gathered one at a time
+module _ (on : ℕ → Bool) where
+  unfoldable pub chosenBelow : ℕ → ℕ
+  chosenBelow zero = 0
+  chosenBelow (suc n) = bitOr (chosenBelow n) (pick (on n) (2 ^ n) 0)
+
+  pub chosen-bits : (n i : ℕ) → bit (chosenBelow n) i ≡ (ltb i n && on i)
+  unfolding chosenBelow
+  chosen-bits zero i = bit-none i ∙ sym (ap (λ (t : Bool). t && on i) (le-ltb i 0 (omega arith)))
+  chosen-bits (suc n) i =
+      bit-or (chosenBelow n) (pick (on n) (2 ^ n) 0) i
+      ∙ ap (λ (t : Bool). t || bit (pick (on n) (2 ^ n) 0) i) (chosen-bits n i)
+      ∙ at (decEq i n)
+    where
+      of-none : (t : Bool) → bit (pick t (2 ^ n) 0) i ≡ (t && eqb i n)
+      of-none true = bit-one n i
+      of-none false = bit-none i
+
+      older : (i ≡ n → ⊥) → ltb i n ≡ ltb i (suc n)
+      older q = go (below-or-not i n)
+        where
+          go : (i < n) ⊎ (n ≤ i) → ltb i n ≡ ltb i (suc n)
+          go (inl h) = lt-ltb i n h ∙ sym (lt-ltb i (suc n) (omega arith))
+          go (inr h) = le-ltb i n h ∙ sym (le-ltb i (suc n) (omega arith))
+
+      and-true : (t : Bool) → (t && true) ≡ t
+      and-true true = refl
+      and-true false = refl
+
+      and-none : (t : Bool) → (t && false) ≡ false
+      and-none true = refl
+      and-none false = refl
+
+      at : Dec (i ≡ n) → ((ltb i n && on i) || bit (pick (on n) (2 ^ n) 0) i) ≡ (ltb i (suc n) && on i)
+      at (yes q) =
+          ap₂ (λ (s u : Bool). s || u)
+          (ap (λ (t : Bool). t && on i) (le-ltb i n (omega arith)))
+          (of-none (on n) ∙ ap (λ (t : Bool). on n && t) (eq-eqb i n q) ∙ and-true (on n) ∙ ap on (sym q))
+          ∙ sym (ap (λ (t : Bool). t && on i) (lt-ltb i (suc n) (omega arith)))
+      at (no q) =
+          ap (λ (u : Bool). (ltb i n && on i) || u) (of-none (on n) ∙ ap (λ (t : Bool). on n && t) (ne-eqb i n q) ∙ and-none (on n))
+          ∙ or-false (ltb i n && on i)
+          ∙ ap (λ (t : Bool). t && on i) (older q)
+
+-- ---- a set, by its elements
 abbrev pub joins : ℕ → ℕ → ℕ
 joins i x = bitOr x (2 ^ i)
 
 module _ (which : ℕ) where
-  gathered : ℕ → ℕ
-  gathered n = rising (ofOnes joins which) n 0
-
-  bits : (n k : ℕ) → bit (gathered n) k ≡ (ltb k n && bit which k)
-  unfolding gathered rising ofOnes
-  bits zero k = bit-none k ∙ sym (ap (λ (t : Bool). t && bit which k) (le-ltb k 0 (omega arith)))
-  bits (suc n) k = at (bit which n) refl (decEq k n) (bits n k)
+  gathers : (n : ℕ) → rising (ofOnes joins which) n 0 ≡ chosenBelow (bit which) n
+  unfolding rising ofOnes chosenBelow
+  gathers zero = refl
+  gathers (suc n) = ap (λ (x : ℕ). pick (bit which n) (joins n x) x) (gathers n) ∙ at (bit which n)
     where
-      older : (k ≡ n → ⊥) → ltb k n ≡ ltb k (suc n)
-      older q = go (below-or-not k n)
-        where
-          go : (k < n) ⊎ (n ≤ k) → ltb k n ≡ ltb k (suc n)
-          go (inl h) = lt-ltb k n h ∙ sym (lt-ltb k (suc n) (omega arith))
-          go (inr h) = le-ltb k n h ∙ sym (le-ltb k (suc n) (omega arith))
-
-      kept : (k ≡ n → ⊥) → (ltb k n && bit which k) ≡ (ltb k (suc n) && bit which k)
-      kept q = ap (λ (t : Bool). t && bit which k) (older q)
-
-      here : k ≡ n → (t : Bool) → bit which n ≡ t → (ltb k (suc n) && bit which k) ≡ t
-      here q t e = ap₂ (λ (s u : Bool). s && u) (lt-ltb k (suc n) (omega arith)) (ap (bit which) q ∙ e)
-
-      at : (t : Bool) → bit which n ≡ t → Dec (k ≡ n) → bit (gathered n) k ≡ (ltb k n && bit which k)
-          → bit (pick t (joins n (gathered n)) (gathered n)) k ≡ (ltb k (suc n) && bit which k)
-      at true e (yes q) b =
-          bit-or (gathered n) (2 ^ n) k
-          ∙ ap₂ (λ (s u : Bool). s || u) (b ∙ ap (λ (s : Bool). s && bit which k) (le-ltb k n (omega arith))) (bit-one n k ∙ eq-eqb k n q)
-          ∙ sym (here q true e)
-      at true e (no q) b =
-          bit-or (gathered n) (2 ^ n) k
-          ∙ ap₂ (λ (s u : Bool). s || u) b (bit-one n k ∙ ne-eqb k n q)
-          ∙ or-false (ltb k n && bit which k)
-          ∙ kept q
-      at false e (yes q) b = b ∙ ap (λ (s : Bool). s && bit which k) (le-ltb k n (omega arith)) ∙ sym (here q false e)
-      at false e (no q) b = b ∙ kept q
+      at : (t : Bool) → pick t (joins n (chosenBelow (bit which) n)) (chosenBelow (bit which) n) ≡ bitOr (chosenBelow (bit which) n) (pick t (2 ^ n) 0)
+      at true = refl
+      at false = sym (or-zero-r (chosenBelow (bit which) n))
 
   pub union : (n : ℕ) → which < 2 ^ n → rising (ofOnes joins which) n 0 ≡ which
-  unfolding gathered
-  union n small = same-bits (gathered n) which (λ k. bits n k ∙ at k (below-or-not k n))
+  union n small = gathers n ∙ same-bits (chosenBelow (bit which) n) which (λ k. chosen-bits (bit which) n k ∙ at k (below-or-not k n))
     where
       at : (k : ℕ) → (k < n) ⊎ (n ≤ k) → (ltb k n && bit which k) ≡ bit which k
       at k (inl h) = rw (lt-ltb k n h)

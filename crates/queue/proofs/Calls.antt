@@ -103,7 +103,8 @@ module _ (q : Queue) (l m : List ℕ) (c : Control) (r : Answer) (asked : r ≡ 
           λ k h. rw (same k (rw (a .lengths .scalars) at h)) (at-runs q k),
         )
 
-    module _ (l′ m′ : List ℕ) (p p′ : Progress) (c′ : Control) (starts : p ≡ starting c) (ends : c′ ≡ ended (p′ .control) (p′ .noted .vaer) (p′ .noted .recorded)) where
+    module _ (l′ m′ : List ℕ) (p p′ : Progress) (c′ : Control) (starts : p ≡ starting c)
+        (ends : c′ ≡ ended (p′ .control) (p′ .noted .vaer) (p′ .noted .recorded)) where
       through : underWay l′ m′ p′ ≡ throughBy program (q .scalars) (length (q .scalars)) (underWay l m p) → marked (state l′ c′) m′ ≡ ranThrough q here
       unfolding ranThrough
       through e =
@@ -114,7 +115,8 @@ module _ (q : Queue) (l m : List ℕ) (c : Control) (r : Answer) (asked : r ≡ 
           ∙ same-through q program same (size q) (omega arith) (underWay l m p)
           ∙ ap (λ (b : Progress). straight q (size q) (underWay l m b)) starts)
 
-      pub run-done : underWay l′ m′ p′ ≡ throughBy program (q .scalars) (length (q .scalars)) (underWay l m p) → outcome (Done 0) (marked (state l′ c′) m′) ≡ queueRun q here
+      pub run-done : underWay l′ m′ p′ ≡ throughBy program (q .scalars) (length (q .scalars)) (underWay l m p)
+          → outcome (Done 0) (marked (state l′ c′) m′) ≡ queueRun q here
       unfolding queueRun
       run-done e = ap (outcome (Done 0)) (through e) ∙ by-reply _ true f
 

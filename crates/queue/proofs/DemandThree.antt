@@ -23,12 +23,14 @@ use Rattle.queue.specs.Claim.{Claim, AcceptedClaim}
 use Rattle.queue.proofs.Claim.{permitted-proper, verdict-right, permitted-straight}
 use Rattle.queue.proofs.Calls.{fine-bounded}
 
--- THE CALL BY A LIST: for every queue, list, state and marks, walked entry by entry it gives and leaves what it gives and leaves with the straight run's state and marks
+-- THE CALL BY A LIST: for every queue, list, state and marks, walked entry by entry it gives and leaves what it gives and leaves with the straight run's
+-- state and marks
 pub walked-straight : (q : Queue) (list : List ℕ) (b : Marked) → walkedRun q list b ≡ orderedRun q list b
 unfolding walkedRun orderedRun ranBy ranThrough
 walked-straight q list b = at (isDone (acceptance (b .state .control) q)) refl
   where
-    by : (v : Verdict) → verdictOf q (b .state .control .vlr) list ≡ v → b .state .control .vlr ≤ 64 → byVerdict b (ranBy q list b) v ≡ byVerdict b (ranThrough q b) v
+    by : (v : Verdict) → verdictOf q (b .state .control .vlr) list ≡ v → b .state .control .vlr ≤ 64
+        → byVerdict b (ranBy q list b) v ≡ byVerdict b (ranThrough q b) v
     by Permitted e short = ap (λ (r : Run). byVerdict b (finished r) Permitted) (permitted-straight q (begun b) short list e)
     by (Refused place) e short = refl
 

@@ -1,6 +1,6 @@
 -- Steps that touch nothing in common but what both only read commute, whatever they do.
 -- Assumes nothing.
-use mathlib.Core.Path.{_≡_, sym, ap, ap₂, _∙_}
+use mathlib.Core.Path.{_≡_, sym, ap₂, _∙_}
 use mathlib.Core.Logic.{_⊎_, inl, inr, ⊎-elim}
 use mathlib.Core.Bool.{_||_}
 use mathlib.Core.List.{List}

@@ -19,14 +19,16 @@ returns : tie.Need-returns
 returns c =
     let all : tie.After-all = search needs in let start : tie.Start = search needs in
     let told : tie.After-enum-told = search needs in let t : tie.After-tested = search needs in let args = start .args in
-    every (args .store) (args .quadword) (args .vc .0) (args .which) _ (marked (state (args .elements .now) (args .control)) (args .marks .now)) (args .window .now) _ _
+    every (args .store) (args .quadword) (args .vc .0) (args .which) _ (marked (state (args .elements .now) (args .control)) (args .marks .now))
+    (args .window .now) _ _
     (t .tested .ensures) (told .enum-told .given .1) _ _ _ (all .all .ensures)
 
 returns-2 : tie.Need-returns-2
 returns-2 c =
     let start : tie.Start = search needs in
     let known : tie.After-found = search needs in let t : tie.After-tested = search needs in let args = start .args in
-    none (args .store) (args .quadword) (args .vc .0) (args .which) _ (marked (state (args .elements .now) (args .control)) (args .marks .now)) (args .window .now) _ _
+    none (args .store) (args .quadword) (args .vc .0) (args .which) _ (marked (state (args .elements .now) (args .control)) (args .marks .now))
+    (args .window .now) _ _
     (t .tested .ensures) _ _ _ (c .refused .result) (known .found .given .1) (c .before .bad-element .ensures) (c .refused .ensures)
 
 pub all-or-none-spec : {M : Type 1} → statement M

@@ -10,14 +10,16 @@ use Rattle.memory.proofs.transfer.Tie as tie
 returns : tie.Need-returns
 returns c =
     let v : tie.After-allowed = search needs in let start : tie.Start = search needs in let args = start .args in
-    refuses (marked (state (args .elements .now) (args .control)) (args .marks .now)) (args .instruction) (args .base) (args .stride) (args .window .now) (args .origin) _
+    refuses (marked (state (args .elements .now) (args .control)) (args .marks .now)) (args .instruction) (args .base) (args .stride) (args .window .now)
+    (args .origin) _
     (v .allowed .ensures) (c .before .if1 .taken) (c .refused .result) (c .refused .ensures)
 
 all-or-none-requires : tie.Need-all-or-none-requires
 all-or-none-requires c κs =
     let chosen : tie.After-operated = search needs in
     let e : tie.Else1 = search needs in let start : tie.Start = search needs in let args = start .args in
-    let h = ends-in-time (marked (state (args .elements .now) (args .control)) (args .marks .now)) (args .instruction) (args .base) (args .stride) (args .window .now)
+    let h = ends-in-time (marked (state (args .elements .now) (args .control)) (args .marks .now)) (args .instruction) (args .base) (args .stride)
+    (args .window .now)
     (args .origin) _ (e .before .allowed .ensures) (e .if1 .left) in
     (search needs, search needs, search needs, chosen .operated .ensures .small, omega arith)
 

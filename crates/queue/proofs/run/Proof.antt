@@ -16,7 +16,8 @@ straight-requires : tie.Need-straight-requires
 straight-requires c κs =
     let e : tie.Else1 = search needs in let a : tie.After-accept = search needs in let s : tie.Start = search needs in
     let fine = sym (e .before .is-done .ensures) ∙ not-false _ (e .if1 .left) in
-    through-meets _ (s .args .elements .now) (s .args .marks .now) _ _ (a .accept .ensures .answered) fine (a .accept .result .program) (a .accept .ensures .decoded fine) _
+    through-meets _ (s .args .elements .now) (s .args .marks .now) _ _ (a .accept .ensures .answered) fine (a .accept .result .program)
+    (a .accept .ensures .decoded fine) _
     (c .begin .ensures)
 
 returns-2 : tie.Need-returns-2

@@ -64,7 +64,8 @@ returns : tie.Need-returns Inv-loop μ-loop
 returns c =
     let t : tie.Then1 Inv-loop μ-loop = search needs in let d : AfterAccept = search needs in let s : Start = search needs in let z = s .args in
     three-promises _ (z .list .now) (marked (state (z .elements .now) (z .control)) (z .marks .now)) _
-    (listed-refused _ (z .elements .now) (z .marks .now) _ _ _ (d .accept .ensures) (sym (t .before .is-done .ensures) ∙ not-true _ (t .if1 .taken)) (z .list .now)
+    (listed-refused _ (z .elements .now) (z .marks .now) _ _ _ (d .accept .ensures) (sym (t .before .is-done .ensures) ∙ not-true _ (t .if1 .taken))
+    (z .list .now)
     (c .refused .result) (c .refused .ensures))
 
 loop-holds : tie.Need-loop-holds Inv-loop μ-loop
@@ -89,7 +90,8 @@ loop-again c =
 check-requires : tie.Need-check-requires Inv-loop μ-loop
 check-requires c κs =
     let at : AtLoop = search needs in let e : QueueAccepted = search needs in
-    check-meets _ (entry e .args .elements .now) (entry e .args .marks .now) _ _ _ (accepted e .accept .ensures) (fine e) _ _ _ _ (at .loop .inv) (c .before .loop-test .left)
+    check-meets _ (entry e .args .elements .now) (entry e .args .marks .now) _ _ _ (accepted e .accept .ensures) (fine e) _ _ _ _ (at .loop .inv)
+    (c .before .loop-test .left)
 
 enum-told : tie.Need-enum-told Inv-loop μ-loop
 enum-told c = search needs

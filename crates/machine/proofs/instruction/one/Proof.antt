@@ -35,7 +35,8 @@ returns-2 c =
     let k : tie.After-matched = search needs in
     let i = s .args .instruction in
     λ d g e f.
-    valued i (s .args .scalar) (b .with-bit .result) _ d g (rw e (search needs)) (search needs) no-mask (s .pre .3) _ (c .before .some .result) (c .noted .result)
+    valued i (s .args .scalar) (b .with-bit .result) _ d g (rw e (search needs)) (search needs) no-mask (s .pre .3) _ (c .before .some .result)
+    (c .noted .result)
     (rw (e, ← (k .matched .ensures)) (c .before .some .ensures))
     (rw (e, f) (c .noted .ensures))
     ∙ ap (λ (x : ℕ). doneFor x i (s .args .scalar) (run (s .args .elements .now) d g)) (b .with-bit .ensures)

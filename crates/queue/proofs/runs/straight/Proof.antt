@@ -12,7 +12,8 @@ use Rattle.queue.proofs.runs.straight.Tie as tie
 
 abbrev Inv-loop : tie.InvT-loop
 Inv-loop elements₀ marks₀ scalars program progress₀ k₀ elements marks progress k =
-    (k ≤ length scalars) × (progress .control .vlr ≤ 64) × (underWay elements marks progress ≡ throughBy program scalars k (underWay elements₀ marks₀ progress₀))
+    (k ≤ length scalars) × (progress .control .vlr ≤ 64)
+    × (underWay elements marks progress ≡ throughBy program scalars k (underWay elements₀ marks₀ progress₀))
 
 abbrev μ-loop : tie.MeasureT-loop
 μ-loop elements₀ marks₀ scalars program progress₀ k₀ elements marks progress k = length scalars - k

@@ -12,7 +12,8 @@ use Rattle.queue.proofs.runs.walk.Tie as tie
 
 abbrev Inv-loop : tie.InvT-loop
 Inv-loop elements₀ marks₀ program scalars list progress₀ i₀ elements marks progress i =
-    (progress .control .vlr ≡ progress₀ .control .vlr) × RunInv (actBy program scalars) list (underWay elements₀ marks₀ progress₀) (underWay elements marks progress) i
+    (progress .control .vlr ≡ progress₀ .control .vlr)
+    × RunInv (actBy program scalars) list (underWay elements₀ marks₀ progress₀) (underWay elements marks progress) i
 
 abbrev μ-loop : tie.MeasureT-loop
 μ-loop elements₀ marks₀ program scalars list progress₀ i₀ elements marks progress i = length list - i
