@@ -14,9 +14,8 @@ use Rattle.state.specs.declared.Control.{Control}
 use Rattle.state.specs.Marks.{marked}
 use Rattle.state.specs.State.{state}
 use Rattle.machine.specs.declared.Progress.{Progress}
-use Rattle.machine.specs.Run.{Gathered, Added, added, joined, ended, finished}
+use Rattle.machine.specs.Run.{Gathered, Added, added, joined, ended, finished, underWay}
 use Rattle.machine.specs.Step.{notes}
-use Rattle.machine.specs.Run.{underWay}
 
 abbrev gathered : ℕ → Bool → List ℕ → Gathered
 gathered v r m = record { vaer = v; recorded = r; marks = m }

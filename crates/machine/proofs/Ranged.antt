@@ -9,8 +9,7 @@ use lib.Bits.{bitOr}
 use Rattle.numbers.specs.Choice.{pick}
 use Rattle.state.specs.declared.Control.{Control}
 use Rattle.state.specs.State.{vaerInRange, enabled, withVaer}
-use Rattle.state.proofs.Ranges.{Ranged, vaer-or, vaer-register}
-use Rattle.state.proofs.Ranges.{stopped as stopped-status}
+use Rattle.state.proofs.Ranges.{Ranged, vaer-or, vaer-register, stopped as stopped-status}
 use Rattle.opcodes.specs.declared.Instruction.{Instruction}
 use Rattle.element.proofs.Types.{types-in-range}
 use Rattle.opcodes.specs.Opcodes.{workAt, writesMask, inOneStep}

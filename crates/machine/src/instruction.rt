@@ -19,12 +19,11 @@ ghost use Prim.Native.Nat.{ℕ, _<_, _≤_};
 ghost use Rattle.numbers.specs.Bits.{bit};
 ghost use Rattle.state.specs.declared.Control.{Control};
 ghost use Rattle.opcodes.specs.Opcodes.{inOneStep};
-ghost use Rattle.machine.specs.Run.{Gathered, run as runOf};
+ghost use Rattle.machine.specs.Run.{Gathered, run as runOf, gatheredIn, underWay};
 ghost use Rattle.machine.specs.Step.{registerBit, notes, worked};
 ghost use Rattle.machine.specs.Instruction.{stepOf, wholeOf};
 ghost use Rattle.opcodes.specs.Working.{Below, isRegisterWork};
 ghost use Rattle.machine.specs.Working.{matched as matchedOf, effected as effectedOf, doneFor};
-ghost use Rattle.machine.specs.Run.{gatheredIn, underWay};
 
 // The bit of a register in VAER.
 fn register_bit(register: Register) -> u64

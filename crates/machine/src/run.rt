@@ -7,9 +7,8 @@ ghost use mathlib.Core.Path.{_≡_};
 ghost use Prim.Native.Nat.{ℕ};
 ghost use mathlib.Core.List.{List};
 ghost use Rattle.state.specs.Marks.{alsoMarked};
-ghost use Rattle.machine.specs.Run.{added, joined, ended};
+ghost use Rattle.machine.specs.Run.{added, joined, ended, gatheredIn, starting};
 ghost use Rattle.machine.specs.Step.{notes as notesOf};
-ghost use Rattle.machine.specs.Run.{gatheredIn, starting};
 
 // A run that begins.
 pub fn begin(control: Control) -> Progress

@@ -18,9 +18,8 @@ use Rattle.state.specs.Outcome.{Outcome, outcome, refused, refusedMarked}
 use Rattle.state.proofs.Refusing.{refuses-marked}
 use Rattle.state.specs.State.{state, inRange, enabled, lengthInRange, vaerInRange, vpsrInRange}
 use Rattle.machine.specs.declared.Progress.{Progress}
-use Rattle.machine.specs.Run.{ended, finished}
+use Rattle.machine.specs.Run.{ended, finished, starting, underWay}
 use Rattle.machine.proofs.Gather.{finishes}
-use Rattle.machine.specs.Run.{starting, underWay}
 use Rattle.touch.specs.Parts.{Queue, size, instructionAt}
 use Rattle.queue.specs.Queue.{wellFormed, positions, acceptance, straight}
 use Rattle.queue.specs.Run.{ranThrough, queueRun, verdictOf, byVerdict, ranBy, walkedRun}

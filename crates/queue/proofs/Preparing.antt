@@ -22,8 +22,7 @@ use Rattle.opcodes.specs.Working.{Below}
 use Rattle.opcodes.specs.Opcodes.{isMemory}
 use Rattle.opcodes.proofs.Passed.{no-memory, refusal}
 use Rattle.machine.specs.declared.Progress.{Progress}
-use Rattle.machine.specs.Run.{ended}
-use Rattle.machine.specs.Run.{starting, underWay}
+use Rattle.machine.specs.Run.{ended, starting, underWay}
 use Rattle.order.specs.declared.Verdict.{Verdict}
 use Rattle.order.specs.declared.Verdict.the-variants as verdict
 use Rattle.touch.specs.Parts.{placeholder, Queue, size, decodedIn, instructionOr, instructionAt}

@@ -1,7 +1,6 @@
 -- `register` meets its contract: the instruction, whole, is the run. Assumes nothing.
 use Rattle.machine.specs.declared.Progress.{Progress}
-use Rattle.machine.specs.Run.{finished}
-use Rattle.machine.specs.Run.{underWay}
+use Rattle.machine.specs.Run.{finished, underWay}
 use Rattle.machine.specs.Instruction.{wholeOf, instructionDone}
 use Rattle.machine.proofs.Gather.{finishes}
 use mathlib.Core.Path.{ap, _∙_}

@@ -5,8 +5,7 @@ use Prim.Native.Nat.{ℕ}
 use borrow.Author.Needs.{needs}
 use Rattle.state.specs.declared.Control.{Control}
 use Rattle.state.specs.State.{withVmr, withVcr}
-use Rattle.machine.specs.Run.{run}
-use Rattle.machine.specs.Run.{gatheredIn}
+use Rattle.machine.specs.Run.{run, gatheredIn}
 use Rattle.machine.proofs.instruction.effected.Statement.{statement}
 use Rattle.machine.proofs.instruction.effected.Tie as tie
 
