@@ -12,7 +12,8 @@ low-bits-requires-2 : tie.Need-low-bits-requires-2
 low-bits-requires-2 c κs =
     let l : tie.After-low-bits = search needs in
     let few : ones (l .low-bits .result) ≤ 64 = ones-le 64 (l .low-bits .result) (search needs) in
-    rw (c .count .ensures) few
+    let fits : c .count .result ≤ 64 = rw (c .count .ensures) few in
+    search (fits, needs)
 
 returns : tie.Need-returns
 returns c =
