@@ -46,7 +46,7 @@ use Rattle.demands.specs.Written.{wrote, markOf}
 use Rattle.demands.specs.Two.{Leaves}
 use Rattle.demands.specs.Marks.{Kind, instruction, queued, listed, file, clear, nothing, kindOf, KindWrote}
 use Rattle.demands.specs.Marks.{Wrote, Clears, Sized, OneCall, Turn, handed, marksAfter, afterAll, NoClear, WrittenSince}
-use Rattle.demands.specs.Marks.{AllSized, Exactly, chained, NoneClears, Redraw}
+use Rattle.demands.specs.Marks.{EachCall, AllSized, Exactly, Kept, kept, onKept, chained, Redraw}
 use Rattle.demands.proofs.One as one
 use Rattle.demands.proofs.Stepping.{or-split, or-one, Fit, Left, straight-left, walk-left}
 use Rattle.demands.proofs.Two as two
@@ -273,7 +273,7 @@ clears l s = record {
 }
 
 -- ---- every call
-pub one-call : (call : Call) (l : Lent) → Sized l → OneCall call l
+pub one-call : (call : Call) (l : Lent) → EachCall call l
 unfolding called executed left
 one-call (execute opcode cntrl scalar base stride origin) l s = by-number _ l s (λ c. c) (executes opcode cntrl scalar base stride origin l s)
 one-call (run q) l s = by-number _ l s (λ c. c) (runs q l s)
@@ -355,24 +355,27 @@ exactly ts r i sized h k =
     written (inl x) = absurd (unmarked r i h (x .0))
     written (inr w) = w
 
--- ---- calls on one state
+-- ---- calls that hand on elements and marks
 module _ (r i : ℕ) (h : r < 16) (k : i < 64) where
-  stays : (cs : List Call) (l : Lent) → Sized l → NoneClears cs → markOf (l .marks) r i ≡ true → markOf (chained cs l .marks) r i ≡ true
+  stays : (ts : List Turn) (x : Kept) → length (x .elements) ≡ 1024 → length (x .marks) ≡ 16 → NoClear ts → markOf (x .marks) r i ≡ true
+      → markOf (chained ts x .marks) r i ≡ true
   unfolding chained
-  stays [] l s none t = t
-  stays (c ∷ cs) l s none t =
-      let o = one-call c l s in
-      stays cs (called c l .1) (o .sized) (none .1) (o .marks r i h k .1 (none .0, inl t))
+  stays [] x e m none t = t
+  stays (u ∷ ts) x e m none t =
+      let o = one-call (u .call) (onKept u x) (record { elements = e; marks = m }) in
+      stays ts (kept (called (u .call) (onKept u x) .1)) (o .sized .elements) (o .sized .marks) (none .1) (o .marks r i h k .1 (none .0, inl t))
 
   -- AN ELEMENT WHOSE MARK IS ZERO
-  shows : (cs : List Call) (l : Lent) → Sized l → NoneClears cs → markOf (chained cs l .marks) r i ≡ false
-      → at (chained cs l .elements) r i ≡ at (l .elements) r i
+  shows : (ts : List Turn) (x : Kept) → length (x .elements) ≡ 1024 → length (x .marks) ≡ 16 → NoClear ts → markOf (chained ts x .marks) r i ≡ false
+      → at (chained ts x .elements) r i ≡ at (x .elements) r i
   unfolding chained
-  shows [] l s none e = refl
-  shows (c ∷ cs) l s none e =
-      let o = one-call c l s in
-      shows cs (called c l .1) (o .sized) (none .1) e
-      ∙ o .kept r i h k (λ w. true-not-false (sym e ∙ stays cs (called c l .1) (o .sized) (none .1) (o .marks r i h k .1 (none .0, inr w))))
+  shows [] x e m none z = refl
+  shows (u ∷ ts) x e m none z =
+      let o = one-call (u .call) (onKept u x) (record { elements = e; marks = m }) in
+      let next = kept (called (u .call) (onKept u x) .1) in
+      shows ts next (o .sized .elements) (o .sized .marks) (none .1) z
+      ∙ o .kept r i h k (λ w. true-not-false
+      (sym z ∙ stays ts next (o .sized .elements) (o .sized .marks) (none .1) (o .marks r i h k .1 (none .0, inr w))))
 
-pub redraw : (cs : List Call) (l : Lent) (r i : ℕ) → Redraw cs l r i
-redraw cs l r i s none h k e = shows r i h k cs l s none e
+pub redraw : (ts : List Turn) (x : Kept) (r i : ℕ) → Redraw ts x r i
+redraw ts x r i e m none h k z = shows r i h k ts x e m none z

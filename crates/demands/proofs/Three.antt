@@ -25,7 +25,7 @@ use Rattle.queue.specs.Run.{ranThrough, queueRun, verdictOf, orderedRun}
 use Rattle.queue.proofs.Again.{run-in-range, second-call}
 use Rattle.queue.proofs.Calls.{fine-in-range}
 use Rattle.queue.proofs.DemandThree.{walked-straight, claim}
-use Rattle.demands.specs.Three.{DemandThree, gathers, Ends, RunEnds, EmptyQueue, EmptyList, emptyQueue}
+use Rattle.demands.specs.Three.{DemandThree, vaerGets, Ends, RunEnds, EmptyQueue, EmptyList, emptyQueue}
 use Rattle.demands.proofs.Ending.{RunEnd, ends-run, halts}
 use Rattle.demands.proofs.Gathering.{Going, straight-on}
 
@@ -41,16 +41,16 @@ module _ (q : Queue) (b : Marked) (accepted : isDone (acceptance (b .state .cont
   going : Going (b .state .control) ran
   going = straight-on (b .state .control) q (size q) (begun b) (record { gathered = refl; vaer = refl; vpsr = refl })
 
-  some : (gathers q b ≡ 0 → ⊥) → ran .gathered .recorded ≡ true
-  some n = going .gathered ∙ ap not (ne-eqb (gathers q b) 0 n)
+  some : (vaerGets q b ≡ 0 → ⊥) → ran .gathered .recorded ≡ true
+  some n = going .gathered ∙ ap not (ne-eqb (vaerGets q b) 0 n)
 
   end-of-run : Ends q b
   unfolding ranThrough
   end-of-run = record {
-    vaer = end .vaer ∙ ap (λ (v : ℕ). bitOr v (gathers q b)) (going .vaer);
+    vaer = end .vaer ∙ ap (λ (v : ℕ). bitOr v (vaerGets q b)) (going .vaer);
     vpsr = end .vpsr
         ∙ ap₂ (λ (t : Bool) (v : ℕ). pick t (withBit (withBit v 0 0) 7 1) v) (going .gathered) (going .vpsr)
-        ∙ halts (b .state .control .vpsr) (ranged (b .state .control) (fine-in-range (b .state .control) q accepted) .vpsr) (eqb (gathers q b) 0);
+        ∙ halts (b .state .control .vpsr) (ranged (b .state .control) (fine-in-range (b .state .control) q accepted) .vpsr) (eqb (vaerGets q b) 0);
     in-range = run-in-range q b accepted;
     second-call = λ n. second-call q b accepted (some n);
   }

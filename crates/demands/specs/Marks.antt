@@ -1,6 +1,6 @@
 -- Document 02, "Which elements were written" (Q-3): "From new marks, handed on unchanged from call to call, a bit is one exactly when, since the last clear,
 -- a file was loaded or an accepted instruction wrote that element". Said of any sequence of the public calls, refused ones and those that touch no mark
--- among them, whatever else is lent to each. What an instruction wrote is specs/Written.antt's; no mark stands in it.
+-- among them, whatever else is lent to each. What an instruction wrote is `wrote` of specs/Written.antt, in which no mark stands.
 use mathlib.Core.Bool.{true, false}
 use mathlib.Core.List.{List, [], _∷_}
 use mathlib.Core.Logic.{_⊎_, _↔_}
@@ -104,6 +104,9 @@ pub record OneCall (call : Call) (l : Lent) : Type 0 where
   -- what it did not write is as it was
   pub kept : (r i : ℕ) → r < 16 → i < 64 → (Wrote call l r i → ⊥) → at (called call l .1 .elements) r i ≡ at (l .elements) r i
 
+abbrev pub EachCall : Call → Lent → Type 0
+EachCall call l = Sized l → OneCall call l
+
 -- ---- any sequence of calls
 -- a call, and what is lent to it beside the marks
 pub record Turn : Type 0 where
@@ -126,7 +129,8 @@ abbrev pub NoClear : List Turn → Type 0
 NoClear [] = Unit {0}
 NoClear (t ∷ ts) = (Clears (kindOf (t .call)) → ⊥) × NoClear ts
 
--- the element was written since the last clear: by the first of them, and no later one is a clear; or by a later one
+-- the element was written since the last clear: by the first of them, and no later one is a clear; or by a later one (the marks go along because each call
+-- is lent them: neither its number nor the control record of a run looks at them)
 abbrev pub WrittenSince : List Turn → List ℕ → ℕ → ℕ → Type 0
 WrittenSince [] m r i = ⊥
 WrittenSince (t ∷ ts) m r i = (Wrote (t .call) (handed t m) r i × NoClear ts) ⊎ WrittenSince ts (marksAfter t m) r i
@@ -140,16 +144,26 @@ AllSized (t ∷ ts) = (length (t .lends .elements) ≡ 1024) × AllSized ts
 abbrev pub Exactly : List Turn → ℕ → ℕ → Type 0
 Exactly ts r i = AllSized ts → r < 16 → i < 64 → (markOf (afterAll ts noMarks) r i ≡ true) ↔ WrittenSince ts noMarks r i
 
--- ---- what a panel relies on: calls on one state, each handed all that the last one left
-unfoldable pub chained : List Call → Lent → Lent
-chained [] l = l
-chained (c ∷ cs) l = chained cs (called c l .1)
+-- ---- what a panel relies on: calls that hand on elements and marks, whatever else is lent to each
+-- the elements and the marks that are handed on
+pub record Kept : Type 0 where
+  pub elements : List ℕ
+  pub marks : List ℕ
 
-abbrev pub NoneClears : List Call → Type 0
-NoneClears [] = Unit {0}
-NoneClears (c ∷ cs) = (Clears (kindOf c) → ⊥) × NoneClears cs
+abbrev pub kept : Lent → Kept
+kept l = record { elements = l .elements; marks = l .marks }
 
--- an element whose mark is zero is as it was when the first of them was made
-abbrev pub Redraw : List Call → Lent → ℕ → ℕ → Type 0
-Redraw cs l r i =
-    Sized l → NoneClears cs → r < 16 → i < 64 → markOf (chained cs l .marks) r i ≡ false → at (chained cs l .elements) r i ≡ at (l .elements) r i
+-- a turn that is handed them
+abbrev pub onKept : Turn → Kept → Lent
+onKept t k = lent (k .elements) (t .lends .control) (k .marks) (t .lends .bytes) (t .lends .kindRead) (t .lends .bits)
+
+unfoldable pub chained : List Turn → Kept → Kept
+chained [] k = k
+chained (t ∷ ts) k = chained ts (kept (called (t .call) (onKept t k) .1))
+
+-- an element whose mark is zero is as it was before the first of them
+abbrev pub Redraw : List Turn → Kept → ℕ → ℕ → Type 0
+Redraw ts k r i =
+    length (k .elements) ≡ 1024 → length (k .marks) ≡ 16 → NoClear ts → r < 16 → i < 64
+    → markOf (chained ts k .marks) r i ≡ false
+    → at (chained ts k .elements) r i ≡ at (k .elements) r i

@@ -1,5 +1,5 @@
 -- Document 01, "Queues and orders". DEMAND 3, for any state, any queue that is accepted there and any list; the calls by a list promise it themselves
--- (queue::run_order, kuj_run_order). And what is said of a run's end and of an empty queue.
+-- (queue::run_order, kuj_run_order). Document 02, Q-3: "Demand 3 now includes the marks". And what is said of a run's end and of an empty queue.
 use mathlib.Core.Bool.{true}
 use mathlib.Core.List.{List, []}
 use mathlib.Core.Path.{_≡_}
@@ -26,18 +26,18 @@ DemandThree q b =
 
 -- ---- the end of a queue's run
 -- what VAER gets in it
-abbrev pub gathers : Queue → Marked → ℕ
-gathers q b = straight q (size q) (begun b) .gathered .vaer
+abbrev pub vaerGets : Queue → Marked → ℕ
+vaerGets q b = straight q (size q) (begun b) .gathered .vaer
 
 pub record Ends (q : Queue) (b : Marked) : Type 0 where
   -- VAER is the or of what was there and of what its steps recorded
-  pub vaer : ranThrough q b .state .control .vaer ≡ bitOr (b .state .control .vaer) (gathers q b)
+  pub vaer : ranThrough q b .state .control .vaer ≡ bitOr (b .state .control .vaer) (vaerGets q b)
   -- and if that is anything, VEN is cleared and AEX set
-  pub vpsr : ranThrough q b .state .control .vpsr ≡ pick (eqb (gathers q b) 0) (b .state .control .vpsr) 0x80
+  pub vpsr : ranThrough q b .state .control .vpsr ≡ pick (eqb (vaerGets q b) 0) (b .state .control .vpsr) 0x80
   -- the state is in range
   pub in-range : inRange (ranThrough q b .state .control) ≡ true
   -- "So after an exception a second call gets 3": of any well-formed queue
-  pub second-call : (gathers q b ≡ 0 → ⊥) → (q′ : Queue) → wellFormed q′ ≡ true → acceptance (ranThrough q b .state .control) q′ ≡ Disabled
+  pub second-call : (vaerGets q b ≡ 0 → ⊥) → (q′ : Queue) → wellFormed q′ ≡ true → acceptance (ranThrough q b .state .control) q′ ≡ Disabled
 
 abbrev pub RunEnds : Queue → Marked → Type 0
 RunEnds q b = isDone (acceptance (b .state .control) q) ≡ true → Ends q b

@@ -1,5 +1,6 @@
 -- DEMAND 2: when an instruction is done, and what it then leaves, said from its entry state; and the two round trips of saving and loading. Document 01,
--- "What an element receives" and "Memory": masked elements, those at or past VLR and everything else are as they were. Document 02, Q-3: and the marks.
+-- "What an element receives" and "Memory": masked elements, those at or past VLR and everything else are as they were. Document 02, Q-3: and the marks that
+-- it adds.
 use mathlib.Core.Bool.{true, false, not, _&&_}
 use mathlib.Core.List.{List, _++_}
 use mathlib.Core.Logic.{_⊎_, _↔_}
@@ -38,7 +39,7 @@ use Rattle.saved.specs.Load.{loading}
 use Rattle.demands.specs.Written.{wrote, MarksAfter}
 
 -- ---- a register instruction that works element by element
--- what element i receives of the entry values, and what it records
+-- what element i receives of the entry values, and what it records (whatever the marks)
 abbrev pub receives : Instruction → ℕ → State → ℕ → Out
 receives ins scalar s i = received ins scalar i (begun (marked s noMarks))
 

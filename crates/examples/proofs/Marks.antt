@@ -52,7 +52,7 @@ marksMany =
     ∷ marks 3 0xA5 (runOrder (two 0xC0 0x0122 0x80 0xC123) (1 ∷ 65 ∷ 0 ∷ 64 ∷ [])) (state (v 2 0 5 ∷ []) (masked 2 2))
     (state (v 2 0 5 ∷ v 3 0 5 ∷ []) (masked 2 1))
     ∷ refuses (runOrder (two 0xC0 0x0122 0x80 0xC123) (1 ∷ 64 ∷ 0 ∷ 65 ∷ [])) (state (v 2 0 5 ∷ []) (masked 2 2)) 9 1
-    -- "Clearing is a call of its own"; control moves and readings touch none, and saving none ("The marks are not saved")
+    -- "Clearing is a call of its own"; control moves touch none, and in proofs/Readings.antt readings and saving none
     ∷ done clearMarks (with a4 (state (v 1 0 5 ∷ []) (enabled 1))) (with (replicate 16 0) (state (v 1 0 5 ∷ []) (enabled 1)))
     ∷ marksNone (writeVlr 3) (state [] (enabled 1)) (state [] (enabled 3))
     ∷ marksNone (writeVmrLow 5) (state [] (enabled 1)) (state [] (masked 1 5))

@@ -4,11 +4,11 @@ use Prim.Native.Nat.{ℕ, zero, suc, _/_, _%_}
 use lib.ListN.{replicate}
 use Rattle.state.specs.declared.answer.Answer.the-variants.{OrderRefused}
 use Rattle.demands.specs.Calls.{Lent, lent, reading, save, load, listState, listFile, listAnswer, printRun}
-use Rattle.examples.proofs.Rows.{Row, puts, v, holding, enabled, control, state, stateAnd, done, refuses}
+use Rattle.examples.proofs.Rows.{Row, puts, v, holding, enabled, control, state, stateAnd, a4, done, refuses, marksNone}
 
 -- V15[63] holds a word, and *kind_read and *bits are these
 abbrev word : (w kind bits : ℕ) → Lent
-word w kind bits = lent (holding (v 15 63 w ∷ [])) (enabled 1) [] [] kind bits
+word w kind bits = lent (holding (v 15 63 w ∷ [])) (enabled 1) a4 [] kind bits
 
 -- a reading of it, over *kind_read 9 and *bits A5
 abbrev shows : (kind w kindRead bits : ℕ) → Row
@@ -73,7 +73,7 @@ files =
     ∷ refusesFile (entry 1 0 1 (entry 1 0 1 [])) 0
     ∷ refusesFile (entry 0 0 1 (entry 1 5 1 [])) 1
     -- saving, into 16,466 bytes: "bytes beyond 16,464 are kept"
-    ∷ done save (stateAnd (v 5 3 0x1234 ∷ []) (control 4 0x5678 3 0x21 0x81) (replicate 16466 9))
+    ∷ marksNone save (stateAnd (v 5 3 0x1234 ∷ []) (control 4 0x5678 3 0x21 0x81) (replicate 16466 9))
     (stateAnd (v 5 3 0x1234 ∷ []) (control 4 0x5678 3 0x21 0x81) (whole (9 ∷ 9 ∷ [])))
     -- "Saving into less than 16,464 bytes gets 10 with the first record that has no room, and writes nothing"
     ∷ refuses save (stateAnd (v 0 0 4 ∷ []) (enabled 1) []) 10 0
