@@ -46,7 +46,7 @@ use Rattle.demands.specs.Written.{wrote, markOf}
 use Rattle.demands.specs.Two.{Leaves}
 use Rattle.demands.specs.Marks.{Kind, instruction, queued, listed, file, clear, nothing, kindOf, KindWrote}
 use Rattle.demands.specs.Marks.{Wrote, Clears, Sized, OneCall, Turn, handed, marksAfter, afterAll, NoClear, WrittenSince}
-use Rattle.demands.specs.Marks.{EachCall, AllSized, Exactly, Kept, kept, onKept, chained, Redraw}
+use Rattle.demands.specs.Marks.{EachCall, AllSized, Exactly, Carried, carried, carrying, chained, Redraw}
 use Rattle.demands.proofs.One as one
 use Rattle.demands.proofs.Stepping.{or-split, or-one, Fit, Left, straight-left, walk-left}
 use Rattle.demands.proofs.Two as two
@@ -146,7 +146,7 @@ module _ (opcode cntrl scalar base stride origin : ℕ) (l : Lent) (s : Sized l)
           λ t. there ins (a .says) r i (or-split _ _ (sym (after .marks r i h) ∙ t)),
           λ w. after .marks r i h ∙ or-one _ _ (back ins (a .says) r i w),
         );
-        kept = λ r i h k none. all .kept (s .elements) (s .marks) ins a r i h k (not-wrote ins (a .says) r i none (wrote ins (lentState l .control) r i) refl);
+        kept = λ r i h k none. all .kept (s .elements) ins a r i h k (not-wrote ins (a .says) r i none (wrote ins (lentState l .control) r i) refl);
       }
     where
       there : (ins : Instruction) → decodedOf true false 0 opcode cntrl ≡ Accepted ins → (r i : ℕ)
@@ -178,7 +178,7 @@ module _ (q : Queue) (l : Lent) (s : Sized l) where
   -- what is left of a run, as the call leaves it
   module _ (call : Call) (no-clear : Clears (kindOf call) → ⊥) (r : Run)
       (elements : called call l .1 .elements ≡ r .elements) (marks : called call l .1 .marks ≡ r .gathered .marks)
-      (d : Left q (KindWrote (kindOf call) l) (begun b) r) where
+      (d : Left (KindWrote (kindOf call) l) (begun b) r) where
     as-left : Marking call l s no-clear
     as-left = record {
       sized = record { elements = ap length elements ∙ d .fit .long; marks = ap length marks ∙ d .fit .sixteen };
@@ -357,25 +357,25 @@ exactly ts r i sized h k =
 
 -- ---- calls that hand on elements and marks
 module _ (r i : ℕ) (h : r < 16) (k : i < 64) where
-  stays : (ts : List Turn) (x : Kept) → length (x .elements) ≡ 1024 → length (x .marks) ≡ 16 → NoClear ts → markOf (x .marks) r i ≡ true
+  stays : (ts : List Turn) (x : Carried) → length (x .elements) ≡ 1024 → length (x .marks) ≡ 16 → NoClear ts → markOf (x .marks) r i ≡ true
       → markOf (chained ts x .marks) r i ≡ true
   unfolding chained
   stays [] x e m none t = t
   stays (u ∷ ts) x e m none t =
-      let o = one-call (u .call) (onKept u x) (record { elements = e; marks = m }) in
-      stays ts (kept (called (u .call) (onKept u x) .1)) (o .sized .elements) (o .sized .marks) (none .1) (o .marks r i h k .1 (none .0, inl t))
+      let o = one-call (u .call) (carrying u x) (record { elements = e; marks = m }) in
+      stays ts (carried (called (u .call) (carrying u x) .1)) (o .sized .elements) (o .sized .marks) (none .1) (o .marks r i h k .1 (none .0, inl t))
 
   -- AN ELEMENT WHOSE MARK IS ZERO
-  shows : (ts : List Turn) (x : Kept) → length (x .elements) ≡ 1024 → length (x .marks) ≡ 16 → NoClear ts → markOf (chained ts x .marks) r i ≡ false
+  shows : (ts : List Turn) (x : Carried) → length (x .elements) ≡ 1024 → length (x .marks) ≡ 16 → NoClear ts → markOf (chained ts x .marks) r i ≡ false
       → at (chained ts x .elements) r i ≡ at (x .elements) r i
   unfolding chained
   shows [] x e m none z = refl
   shows (u ∷ ts) x e m none z =
-      let o = one-call (u .call) (onKept u x) (record { elements = e; marks = m }) in
-      let next = kept (called (u .call) (onKept u x) .1) in
+      let o = one-call (u .call) (carrying u x) (record { elements = e; marks = m }) in
+      let next = carried (called (u .call) (carrying u x) .1) in
       shows ts next (o .sized .elements) (o .sized .marks) (none .1) z
       ∙ o .kept r i h k (λ w. true-not-false
       (sym z ∙ stays ts next (o .sized .elements) (o .sized .marks) (none .1) (o .marks r i h k .1 (none .0, inr w))))
 
-pub redraw : (ts : List Turn) (x : Kept) (r i : ℕ) → Redraw ts x r i
+pub redraw : (ts : List Turn) (x : Carried) (r i : ℕ) → Redraw ts x r i
 redraw ts x r i e m none h k z = shows r i h k ts x e m none z

@@ -60,7 +60,7 @@ marks-come vc on (suc n) m = ap (λ (x : List ℕ). pick (on n) (alsoMarked x vc
 -- what it leaves of elements and marks
 pub record Wrote (ins : Instruction) (r r′ : Run) : Type 0 where
   pub long : length (r′ .elements) ≡ 1024
-  pub marks : MarksAfter ins (r .control) (r .gathered .marks) (r′ .gathered .marks)
+  pub marks : length (r .gathered .marks) ≡ 16 → MarksAfter ins (r .control) (r .gathered .marks) (r′ .gathered .marks)
   pub kept : (p i : ℕ) → p < 16 → i < 64 → wrote ins (r .control) p i ≡ false → at (r′ .elements) p i ≡ at (r .elements) p i
 
 counts-none : (w : Writes) → isCounted w ≡ true → isMaskBit w ≡ false
@@ -70,7 +70,7 @@ counts-none countedElements e = refl
 counts-none bytes e = refl
 
 module _ (ins : Instruction) (scalar : ℕ) (r : Run) (fields : Below ins) (register : isMemory (ins .work) ≡ false)
-    (count : length (r .elements) ≡ 1024) (few : r .control .vlr ≤ 64) (sixteen : length (r .gathered .marks) ≡ 16) where
+    (count : length (r .elements) ≡ 1024) (few : r .control .vlr ≤ 64) where
   -- what it wrote, by the two kinds
   by-elements : inOneStep ins ≡ false → (i : ℕ) → (not (writesMask ins) && operated ins (r .control) i) ≡ wroteElement ins (r .control) i
   by-elements alone i = rw (register, alone) (at-mask (writesMask ins) (operated ins (r .control) i))
@@ -86,7 +86,8 @@ module _ (ins : Instruction) (scalar : ℕ) (r : Run) (fields : Below ins) (regi
   unfolding wrote
   elementwise-wrote alone = record {
     long = elementwise.whole-long ins scalar r fields count alone few;
-    marks = joins-marks ins (r .control) (r .gathered .marks) _ _ (fields .vc) sixteen (elementwise.whole-marks ins scalar r fields count alone few)
+    marks = λ sixteen. joins-marks ins (r .control) (r .gathered .marks) _ _ (fields .vc) sixteen
+        (elementwise.whole-marks ins scalar r fields count alone few)
         (λ i. elementwise.marks-added ins scalar r fields count alone few i ∙ by-elements alone i);
     kept = λ p i a b e. elementwise.whole-kept ins scalar r fields count alone few p i a b
         (ap (λ (t : Bool). eqb p (ins .vc .0) && t) (by-elements alone i) ∙ e);
@@ -122,7 +123,7 @@ module _ (ins : Instruction) (scalar : ℕ) (r : Run) (fields : Below ins) (regi
   unfolding wrote
   iota-wrote one = rw (is-step one) (record {
     long = iota-long;
-    marks = joins-marks ins (r .control) (r .gathered .marks) _ _ (fields .vc) sixteen iota-marks
+    marks = λ sixteen. joins-marks ins (r .control) (r .gathered .marks) _ _ (fields .vc) sixteen iota-marks
         (λ i. first-bits (countOf ins (r .control)) i ∙ by-count one i);
     kept = λ p i a b e. iota-kept p i a b (ap (λ (t : Bool). eqb p (ins .vc .0) && t) (by-count one i) ∙ e);
   })

@@ -63,10 +63,10 @@ pub record Stepped (writes : ℕ → ℕ → Bool) (r r′ : Run) : Type 0 where
 module _ (ins : Instruction) (scalar : ℕ) (r : Run) (fields : Below ins) (register : isMemory (ins .work) ≡ false) (f : Fit r) where
   pub whole-steps : Stepped (wrote ins (r .control)) r (wholeOf ins scalar r)
   whole-steps =
-      let w : Wrote ins r (wholeOf ins scalar r) = whole-wrote ins scalar r fields register (f .long) (f .few) (f .sixteen) in
+      let w : Wrote ins r (wholeOf ins scalar r) = whole-wrote ins scalar r fields register (f .long) (f .few) in
       record {
-        fit = record { long = w .long; few = whole-short ins scalar r _ (f .few) refl; sixteen = w .marks .count };
-        marks = w .marks .marks;
+        fit = record { long = w .long; few = whole-short ins scalar r _ (f .few) refl; sixteen = w .marks (f .sixteen) .count };
+        marks = w .marks (f .sixteen) .marks;
         kept = w .kept;
       }
 
@@ -198,7 +198,7 @@ module _ (ins : Instruction) (scalar : ℕ) (r : Run) (fields : Below ins) (regi
     unfolding stepOf stepWrote
     iota-steps one =
         let w = whole-steps in
-        let same : wholeOf ins scalar r ≡ iotaStep ins scalar r = is-step ins scalar r fields register (f .long) (f .few) (f .sixteen) one in
+        let same : wholeOf ins scalar r ≡ iotaStep ins scalar r = is-step ins scalar r fields register (f .long) (f .few) one in
         let all : (p i : ℕ) → wrote ins (r .control) p i ≡ writes p i =
         λ p i. whole (wrote ins (r .control) p i) ∙ ap (λ (t : Bool). wrote ins (r .control) p i && (t || eqb i e)) (sym one) in
         rw (one, ← same) (record {
@@ -218,16 +218,17 @@ module _ (ins : Instruction) (scalar : ℕ) (r : Run) (fields : Below ins) (regi
         by true o = iota-steps o
         by false o = element-steps o
 
+-- ---- some instructions or steps
+-- what they leave: `Writes` tells which elements they wrote
+pub record Left (Writes : ℕ → ℕ → Type 0) (r r′ : Run) : Type 0 where
+  pub fit : Fit r′
+  pub marks : (p i : ℕ) → p < 16 → (markOf (r′ .gathered .marks) p i ≡ true) ↔ ((markOf (r .gathered .marks) p i ≡ true) ⊎ Writes p i)
+  pub kept : (p i : ℕ) → p < 16 → i < 64 → (Writes p i → ⊥) → at (r′ .elements) p i ≡ at (r .elements) p i
+
 -- ---- a queue, from the run r
 module _ (q : Queue) where
   register-at : (k : ℕ) → isMemory (instructionAt q k .work) ≡ false
   register-at k = no-memory (instructionAt q k) (at-runs q k .work)
-
-  -- what the first n instructions leave: `Writes` tells which elements they wrote
-  pub record Left (Writes : ℕ → ℕ → Type 0) (r r′ : Run) : Type 0 where
-    pub fit : Fit r′
-    pub marks : (p i : ℕ) → p < 16 → (markOf (r′ .gathered .marks) p i ≡ true) ↔ ((markOf (r .gathered .marks) p i ≡ true) ⊎ Writes p i)
-    pub kept : (p i : ℕ) → p < 16 → i < 64 → (Writes p i → ⊥) → at (r′ .elements) p i ≡ at (r .elements) p i
 
   abbrev pub StraightWrote : Run → ℕ → ℕ → ℕ → Type 0
   StraightWrote r n p i = (k : ℕ) × (k < n) × (wrote (instructionAt q k) (straight q k r .control) p i ≡ true)

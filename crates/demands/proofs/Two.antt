@@ -241,6 +241,9 @@ module _ (b : Marked) (opcode cntrl scalar base stride : ℕ) (w : List ℕ) (or
             stores = λ n. absurd (true-not-false (sym m ∙ n));
           }
 
+      register-wrote : isMemory (ins .work) ≡ false → Wrote ins (begun b) (wholeOf ins scalar (begun b))
+      register-wrote m = whole-wrote ins scalar (begun b) fields m count (range .vlr)
+
       -- ---- the marks
       module _ (sixteen : length (b .marks) ≡ 16) where
         abbrev After : Outcome (Marked × List ℕ) → Type 0
@@ -261,9 +264,6 @@ module _ (b : Marked) (opcode cntrl scalar base stride : ℕ) (w : List ℕ) (or
             ∙ sym (marks-none (b .marks) (ins .vc .0)))
             (λ i. bit-none i ∙ rw (m, e) refl)
 
-        register-wrote : isMemory (ins .work) ≡ false → Wrote ins (begun b) (wholeOf ins scalar (begun b))
-        register-wrote m = whole-wrote ins scalar (begun b) fields m count (range .vlr) sixteen
-
         marks : After executed
         unfolding instructionDone
         marks = by (isMemory (ins .work)) refl (isStore (ins .work)) refl
@@ -271,29 +271,29 @@ module _ (b : Marked) (opcode cntrl scalar base stride : ℕ) (w : List ℕ) (or
             by : (t : Bool) → isMemory (ins .work) ≡ t → (u : Bool) → isStore (ins .work) ≡ u → After executed
             by true m true e = subst After (sym (moves-memory m)) (store-marks m e)
             by true m false e = subst After (sym (moves-memory m)) (load-marks m e)
-            by false m u e = subst After (sym (is-register m)) (register-wrote m .marks)
+            by false m u e = subst After (sym (is-register m)) (register-wrote m .marks sixteen)
 
-        -- ---- and what was not written
-        abbrev Keeps : Outcome (Marked × List ℕ) → Type 0
-        Keeps o =
-            (r i : ℕ) → r < 16 → i < 64 → wrote ins (b .state .control) r i ≡ false → at (o .left .0 .state .elements) r i ≡ at (b .state .elements) r i
+      -- ---- what was not written is kept
+      abbrev Keeps : Outcome (Marked × List ℕ) → Type 0
+      Keeps o =
+          (r i : ℕ) → r < 16 → i < 64 → wrote ins (b .state .control) r i ≡ false → at (o .left .0 .state .elements) r i ≡ at (b .state .elements) r i
 
-        load-kept : isMemory (ins .work) ≡ true → isStore (ins .work) ≡ false → Keeps executed
-        unfolding wrote
-        load-kept m e r i h k none = leaves .loads m e .elements r i h k
-            ∙ pick-false (eqb r (ins .vc .0) && operated ins (b .state .control) i) _ _ (same ∙ none)
-          where
-            same : (eqb r (ins .vc .0) && operated ins (b .state .control) i) ≡ (eqb r (ins .vc .0) && wroteElement ins (b .state .control) i)
-            same = rw (m, e) refl
+      load-kept : isMemory (ins .work) ≡ true → isStore (ins .work) ≡ false → Keeps executed
+      unfolding wrote
+      load-kept m e r i h k none = leaves .loads m e .elements r i h k
+          ∙ pick-false (eqb r (ins .vc .0) && operated ins (b .state .control) i) _ _ (same ∙ none)
+        where
+          same : (eqb r (ins .vc .0) && operated ins (b .state .control) i) ≡ (eqb r (ins .vc .0) && wroteElement ins (b .state .control) i)
+          same = rw (m, e) refl
 
-        kept : Keeps executed
-        unfolding instructionDone
-        kept = by (isMemory (ins .work)) refl (isStore (ins .work)) refl
-          where
-            by : (t : Bool) → isMemory (ins .work) ≡ t → (u : Bool) → isStore (ins .work) ≡ u → Keeps executed
-            by true m true e = λ r i h k none. ap (λ (s : State). at (s .elements) r i) (leaves .stores m e .state)
-            by true m false e = load-kept m e
-            by false m u e = subst Keeps (sym (is-register m)) (register-wrote m .kept)
+      kept : Keeps executed
+      unfolding instructionDone
+      kept = by (isMemory (ins .work)) refl (isStore (ins .work)) refl
+        where
+          by : (t : Bool) → isMemory (ins .work) ≡ t → (u : Bool) → isStore (ins .work) ≡ u → Keeps executed
+          by true m true e = λ r i h k none. ap (λ (s : State). at (s .elements) r i) (leaves .stores m e .state)
+          by true m false e = load-kept m e
+          by false m u e = subst Keeps (sym (is-register m)) (register-wrote m .kept)
 
 -- any state, marks, opcode, control word, scalar, base, stride, window and origin
 instruction : (b : Marked) (opcode cntrl scalar base stride : ℕ) (w : List ℕ) (origin : ℕ) → OneInstruction b opcode cntrl scalar base stride w origin
@@ -305,7 +305,7 @@ instruction b opcode cntrl scalar base stride w origin = record {
   gives = gives b opcode cntrl scalar base stride w origin;
   leaves = λ count ins a. leaves b opcode cntrl scalar base stride w origin ins a count;
   marks = λ count sixteen ins a. marks b opcode cntrl scalar base stride w origin ins a count sixteen;
-  kept = λ count sixteen ins a. kept b opcode cntrl scalar base stride w origin ins a count sixteen;
+  kept = λ count ins a. kept b opcode cntrl scalar base stride w origin ins a count;
 }
 
 -- DEMAND 2

@@ -144,25 +144,24 @@ AllSized (t ∷ ts) = (length (t .lends .elements) ≡ 1024) × AllSized ts
 abbrev pub Exactly : List Turn → ℕ → ℕ → Type 0
 Exactly ts r i = AllSized ts → r < 16 → i < 64 → (markOf (afterAll ts noMarks) r i ≡ true) ↔ WrittenSince ts noMarks r i
 
--- ---- what a panel relies on: calls that hand on elements and marks, whatever else is lent to each
--- the elements and the marks that are handed on
-pub record Kept : Type 0 where
+-- ---- what a panel relies on: elements and marks are carried on from call to call, whatever else is lent to each
+pub record Carried : Type 0 where
   pub elements : List ℕ
   pub marks : List ℕ
 
-abbrev pub kept : Lent → Kept
-kept l = record { elements = l .elements; marks = l .marks }
+abbrev pub carried : Lent → Carried
+carried l = record { elements = l .elements; marks = l .marks }
 
--- a turn that is handed them
-abbrev pub onKept : Turn → Kept → Lent
-onKept t k = lent (k .elements) (t .lends .control) (k .marks) (t .lends .bytes) (t .lends .kindRead) (t .lends .bits)
+-- what is lent to a turn that gets them
+abbrev pub carrying : Turn → Carried → Lent
+carrying t k = lent (k .elements) (t .lends .control) (k .marks) (t .lends .bytes) (t .lends .kindRead) (t .lends .bits)
 
-unfoldable pub chained : List Turn → Kept → Kept
+unfoldable pub chained : List Turn → Carried → Carried
 chained [] k = k
-chained (t ∷ ts) k = chained ts (kept (called (t .call) (onKept t k) .1))
+chained (t ∷ ts) k = chained ts (carried (called (t .call) (carrying t k) .1))
 
 -- an element whose mark is zero is as it was before the first of them
-abbrev pub Redraw : List Turn → Kept → ℕ → ℕ → Type 0
+abbrev pub Redraw : List Turn → Carried → ℕ → ℕ → Type 0
 Redraw ts k r i =
     length (k .elements) ≡ 1024 → length (k .marks) ≡ 16 → NoClear ts → r < 16 → i < 64
     → markOf (chained ts k .marks) r i ≡ false

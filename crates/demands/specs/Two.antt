@@ -158,7 +158,7 @@ pub record OneInstruction (b : Marked) (opcode cntrl scalar base stride : ℕ) (
   pub marks : length (b .state .elements) ≡ 1024 → length (b .marks) ≡ 16 → (ins : Instruction) → Accepts (b .state) opcode cntrl base stride w origin ins
       → MarksAfter ins (b .state .control) (b .marks) (executedOf b opcode cntrl scalar base stride w origin .left .0 .marks)
   -- the elements that it did not write are as they were
-  pub kept : length (b .state .elements) ≡ 1024 → length (b .marks) ≡ 16 → (ins : Instruction) → Accepts (b .state) opcode cntrl base stride w origin ins
+  pub kept : length (b .state .elements) ≡ 1024 → (ins : Instruction) → Accepts (b .state) opcode cntrl base stride w origin ins
       → (r i : ℕ) → r < 16 → i < 64 → wrote ins (b .state .control) r i ≡ false
       → at (executedOf b opcode cntrl scalar base stride w origin .left .0 .state .elements) r i ≡ at (b .state .elements) r i
 
