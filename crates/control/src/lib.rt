@@ -1,4 +1,6 @@
 // Control moves: the control record goes in by value, and a write gives it back.
+#![tactic(auto)]
+
 ghost use Rattle.std.specs.Prelude.{◌≡◌};
 ghost use Rattle.state.specs.Outcome.{outcome};
 ghost use Rattle.control.specs.Moves.{read_when, read_enabled, write_when, write_enabled, vlr_read, vcr_read, vmr_low_read, vmr_high_read, vaer_read, vpsr_read, vlr_written, vcr_written, vmr_low_written, vmr_high_written, vpsr_accepted, with_status, after_reset, after_aex, after_ven, vpsr_taken, vpsr_written};

@@ -1,4 +1,6 @@
 // What one element receives: every operation on plain numbers, in groups of works.
+#![tactic(auto)]
+
 ghost use Rattle.std.specs.Prelude.{◌≡◌, Bool, true, false};
 ghost use Rattle.numbers.specs.Choice.{pick};
 ghost use Rattle.opcodes.specs.Works.{Convert};
@@ -16,7 +18,7 @@ mod integer;
 
 // The 64 bits that an element is left with (for compare, the mask bit), and the VAER type bits that
 // it records.
-#[derive(Drop)]
+#[derive(Clone, Copy)]
 pub struct Out {
     pub value: u64,
     pub types: u64,

@@ -1,1 +1,2 @@
 // The table of examples is a theorem: proofs/Table.antt. This crate has no code.
+#![tactic(auto)]

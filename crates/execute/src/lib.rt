@@ -1,4 +1,6 @@
 // One instruction.
+#![tactic(auto)]
+
 ghost use Rattle.std.specs.Prelude.{◌≡◌, true, ◌≤◌};
 ghost use Rattle.state.specs.Marks.{marked};
 ghost use Rattle.state.specs.Outcome.{outcome};

@@ -1,4 +1,6 @@
 // F_floating (document 01, "What an element receives"; document 02, Q-1 and Q-2): each function equals a definition of `specs/` for every input.
+#![tactic(auto)]
+
 mod convert;
 mod deliver;
 mod format;
@@ -18,7 +20,7 @@ ghost use Rattle.floating.specs.Reading.{Shows, longword_reading, kind_of, bits_
 ghost use Rattle.floating.specs.Operations.{answered, sum, difference, product, quotient, compared, rounded_longword, truncated_longword, from_longword};
 
 // What an operation gives, before EXC is looked at: the promises speak of it, and the calls hand out the answer to it.
-#[derive(Drop)]
+#[derive(Clone, Copy)]
 pub enum Delivery {
     Word(u32),
     Overflow,
@@ -29,21 +31,21 @@ pub enum Delivery {
 }
 
 // The 32 bits that an element receives, and the type bits that VAER records.
-#[derive(Drop)]
+#[derive(Clone, Copy)]
 pub struct Flagged {
     pub value: u32,
     pub types: u32,
 }
 
 // The mask bit that a compare gives, and the type bits that VAER records.
-#[derive(Drop)]
+#[derive(Clone, Copy)]
 pub struct Compared {
     pub bit: bool,
     pub types: u32,
 }
 
 // What a panel field shows.
-#[derive(Drop)]
+#[derive(Clone, Copy)]
 pub enum Reading {
     Number(f64),
     Longword(i32),

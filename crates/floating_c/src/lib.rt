@@ -1,4 +1,6 @@
 // The floating operations for C, on plain numbers. A result has the value in its low 32 bits and the type bits above. EXC is set where exc is not 0.
+#![tactic(auto)]
+
 ghost use Rattle.std.specs.Prelude.{◌≡◌, ◌≤◌};
 ghost use Rattle.numbers.specs.Choice.{pick};
 ghost use Rattle.floating.specs.declared.Delivery.TheVariants.{Word};

@@ -1,6 +1,8 @@
 // Every call of Kujawian, exported for C over plain data. Each returns document 01's number and
 // writes what stands beside it; after a refusal nothing else has changed. To C the control record
 // and its five numbers are the same.
+#![tactic(auto)]
+
 mod answers;
 mod record;
 

@@ -1,4 +1,6 @@
 // Lists a saved state: reads a file from standard input and writes its listing to standard output.
+#![tactic(auto)]
+
 use libc::{STDIN_FILENO, STDOUT_FILENO};
 use state::answer;
 

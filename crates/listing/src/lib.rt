@@ -1,4 +1,6 @@
 // The listing of a state and of a saved file. A call that prints into lent bytes gives back the text's length.
+#![tactic(auto)]
+
 mod write;
 
 ghost use Rattle.std.specs.Prelude.{◌≡◌, ◌+◌, ◌<◌, ◌≤◌, length};

@@ -1,5 +1,7 @@
 // The integer, logical and shift work of one element. `a` is Va's element or the scalar, `b` is
 // Vb's. No function branches, so that a loop over elements becomes vector code.
+#![tactic(auto)]
+
 ghost use Rattle.std.specs.Prelude.{◌≡◌, ◌+◌, ◌%◌, ◌^◌};
 ghost use Rattle.numbers.specs.Halves.{low};
 ghost use Rattle.numbers.specs.Signed.{low32, overflows};

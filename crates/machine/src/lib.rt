@@ -1,4 +1,6 @@
 // Register instructions over the lent elements and marks.
+#![tactic(auto)]
+
 use state::Control;
 
 pub mod instruction;
@@ -10,28 +12,28 @@ pub mod run;
 
 // Of what a run gathers by or, in whatever order its steps come, all but the marks, which are lent: the bits that VAER gets, and whether
 // anything was recorded.
-#[derive(Drop)]
+#[derive(Clone, Copy)]
 pub struct Noted {
     pub vaer: u64,
     pub recorded: bool,
 }
 
 // A run under way: the control record, and what was noted so far.
-#[derive(Drop)]
+#[derive(Clone, Copy)]
 pub struct Progress {
     pub control: Control,
     pub noted: Noted,
 }
 
 // Which elements below a length a compare finds in its relation, and which it refuses: element i is bit i.
-#[derive(Drop)]
+#[derive(Clone, Copy)]
 pub struct Found {
     pub found: u64,
     pub refused: u64,
 }
 
 // What an instruction leaves beside elements: VMR, VCR, what VAER gets, and the set of the elements of Vc that it wrote.
-#[derive(Drop)]
+#[derive(Clone, Copy)]
 pub struct Effect {
     pub vmr: u64,
     pub vcr: u64,

@@ -1,4 +1,6 @@
 // Memory instructions over the lent elements, marks and window.
+#![tactic(auto)]
+
 ghost use Rattle.std.specs.Prelude.{◌≡◌, ◌^◌, ◌<◌, ◌≤◌, length};
 ghost use Rattle.numbers.specs.Bits.{bit};
 ghost use Rattle.state.specs.Marks.{marked};
@@ -20,28 +22,28 @@ mod tests;
 mod window;
 
 // What makes an element bad.
-#[derive(Drop)]
+#[derive(Clone, Copy)]
 enum Fault {
     Misaligned,
     Outside,
 }
 
 // The test of one element.
-#[derive(Drop)]
+#[derive(Clone, Copy)]
 enum Test {
     Fine,
     Bad(Fault),
 }
 
 // The tests of all operated elements: the lowest bad one is named.
-#[derive(Drop)]
+#[derive(Clone, Copy)]
 enum Search {
     Fine,
     Bad(Fault, u64),
 }
 
 // How the addresses of the elements are said: by offsets from Vb or by a stride, from a base.
-#[derive(Drop)]
+#[derive(Clone, Copy)]
 struct Addressing {
     pub offsets: bool,
     pub base: u32,

@@ -1,4 +1,6 @@
 // Leaf functions on numbers.
+#![tactic(auto)]
+
 pub mod bits;
 pub mod bytes;
 pub mod halves;

@@ -1,4 +1,6 @@
 // Opcodes and control words: which instructions are accepted, and what they say.
+#![tactic(auto)]
+
 ghost use Rattle.std.specs.Prelude.{◌≡◌};
 ghost use Rattle.opcodes.specs.Decoding.{decoded_of};
 
@@ -12,18 +14,18 @@ pub mod works;
 // An opcode: the number of its work, and whether it is the scalar form; or none. The scalar form of an operate opcode
 // takes a scalar for Va (IOTA: the stride); that of a memory opcode takes offsets from Vb instead of a
 // stride.
-#[derive(Drop)]
+#[derive(Clone, Copy)]
 pub enum Opcode {
     Accepted(u8, bool),
     Reserved,
 }
 
 // A field of the control word, four bits: the number of a register or, where the work takes none there, of a conversion or a relation.
-#[derive(Drop)]
+#[derive(Clone, Copy)]
 pub struct Field(pub u8);
 
 // A decoded instruction: the one value that the layers above work from.
-#[derive(Drop)]
+#[derive(Clone, Copy)]
 pub struct Instruction {
     // The number of its work.
     pub work: u8,
@@ -42,14 +44,14 @@ pub struct Instruction {
 }
 
 // What the control word of an accepted opcode says.
-#[derive(Drop)]
+#[derive(Clone, Copy)]
 pub enum ControlWord {
     Accepted(Instruction),
     Reserved,
 }
 
 // What an opcode and a control word say: an instruction, or why there is none.
-#[derive(Drop)]
+#[derive(Clone, Copy)]
 pub enum Decoded {
     Accepted(Instruction),
     Refused(Answer),

@@ -1,5 +1,7 @@
 // The check of an order list: one pass, with sets of positions. A set is a number whose bit k says that position k is in it. The table `left` has for each
 // element the positions whose step of it has not come; an IOTA's stays in every element's set until its one step comes.
+#![tactic(auto)]
+
 ghost use Rattle.std.specs.Prelude.{◌≡◌, true, false, ◌&&◌, ℕ, ◌≤◌, ◌<◌, ◌^◌, ◌+◌, ◌-◌, eqb, length, get_or};
 ghost use Rattle.std.specs.Int.Bits.{bit_or};
 ghost use Rattle.numbers.specs.Choice.{pick};
@@ -11,7 +13,7 @@ ghost use Rattle.order.specs.SetsWorking.{parted, apart as apart_of, gone, somew
 use numbers::bits;
 
 // What the check of an order list says.
-#[derive(Drop)]
+#[derive(Clone, Copy)]
 pub enum Verdict {
     Permitted,
     Refused(u64),
@@ -143,7 +145,7 @@ fn fetch(left: &[u64; 64], at: usize, kept: u64, e: usize) -> u64
 }
 
 // Whether an entry is seen to come; and an element with its set, which need not be read back.
-#[derive(Drop)]
+#[derive(Clone, Copy)]
 struct Pass {
     seen: bool,
     at: usize,

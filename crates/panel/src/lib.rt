@@ -1,4 +1,6 @@
 // Readings for panel fields.
+#![tactic(auto)]
+
 ghost use Rattle.std.specs.Prelude.{◌≡◌, ◌<◌};
 ghost use Rattle.numbers.specs.Halves.{low};
 ghost use Rattle.state.specs.State.{state as state_of};
@@ -9,7 +11,7 @@ use state::answer::Answer;
 use state::{Control, Element, Register};
 
 // What a panel field gets.
-#[derive(Drop)]
+#[derive(Clone, Copy)]
 pub enum Panel {
     Shown(Reading),
     Refused(Answer),

@@ -1,4 +1,6 @@
 // The two calls on a queue of register instructions: straight through, and by a list of its steps.
+#![tactic(auto)]
+
 ghost use Rattle.std.specs.Prelude.{◌≡◌};
 ghost use Rattle.state.specs.Answer.{number_of, beside_of};
 ghost use Rattle.state.specs.Marks.{marked};

@@ -1,5 +1,7 @@
 // Runs a queue at a shell: reads a saved file and then instruction records from standard input, and
 // writes the answer and the listing of the new state to standard output.
+#![tactic(auto)]
+
 use libc::{STDIN_FILENO, STDOUT_FILENO};
 use state::answer;
 

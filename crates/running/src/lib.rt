@@ -1,4 +1,6 @@
 // The runner: a saved file, then instruction records, run as one queue straight through.
+#![tactic(auto)]
+
 mod record;
 mod records;
 

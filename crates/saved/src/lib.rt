@@ -1,4 +1,6 @@
 // Saved states: 1,029 records of 16 bytes.
+#![tactic(auto)]
+
 mod record;
 
 ghost use Rattle.std.specs.Prelude.{◌≡◌, ◌+◌, ◌*◌, ◌<◌, ◌≤◌, length};

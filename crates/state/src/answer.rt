@@ -6,7 +6,7 @@ ghost use Rattle.state.specs.Outcome.{outcome, refused as refused_of};
 use crate::Control;
 
 // Document 01, "Numbers given back", in the order of its numbers, each with what stands beside it.
-#[derive(Drop)]
+#[derive(Clone, Copy)]
 pub enum Answer {
     // What was read, 0 where nothing is.
     Done(u64),
@@ -83,7 +83,7 @@ pub fn is_done(answer: Answer) -> bool
 }
 
 // How a call ends: its answer, and the control record after it.
-#[derive(Drop)]
+#[derive(Clone, Copy)]
 pub struct Ended {
     pub answer: Answer,
     pub control: Control,

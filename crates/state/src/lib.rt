@@ -1,4 +1,6 @@
 // The state: register and element numbers, and the control record with its range test. And the marks beside it, and what every call gives back.
+#![tactic(auto)]
+
 ghost use Rattle.std.specs.Prelude.{◌≡◌, ◌<◌};
 ghost use Rattle.state.specs.State.{place_of, length_in_range, vaer_in_range, vpsr_in_range, in_range, enabled as enabled_of};
 
@@ -6,17 +8,17 @@ pub mod answer;
 pub mod marks;
 
 // The number of a vector register, 0 to 15. It is as wide as an index, so that any number a caller names is tested and none is cut.
-#[derive(Drop)]
+#[derive(Clone, Copy)]
 pub struct Register(pub usize);
 
 // The number of an element, 0 to 63, as wide.
-#[derive(Drop)]
+#[derive(Clone, Copy)]
 pub struct Element(pub usize);
 
 // The control registers, in the order of the saved records. Each is 64 bits wide, so that a caller
 // can hand over any number, and one that is out of range is refused instead of cut. C has the same record.
 #[repr(C)]
-#[derive(Drop)]
+#[derive(Clone, Copy)]
 pub struct Control {
     pub vlr: u64,
     pub vmr: u64,

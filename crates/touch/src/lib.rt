@@ -1,5 +1,7 @@
 // What each position of a queue is bound to. A set is a number whose bit k says that position k is in it; a table has the set of the positions so
 // far that read, or write, each place: registers 0 to 15, the mask bits 16, the count 17.
+#![tactic(auto)]
+
 ghost use Rattle.std.specs.Prelude.{◌≡◌, true, false, ◌<◌};
 ghost use Rattle.opcodes.specs.Opcodes.{is_memory};
 ghost use Rattle.opcodes.specs.Working.{Below};
