@@ -1,0 +1,9 @@
+-- `integer::subtract` meets its contract: the low 32 bits of the true difference, and its overflow where EXC asks. Assumes nothing.
+use Rattle.numbers.proofs.Longwords.{low32-fits}
+use Rattle.element.proofs.integer.subtract.Goals as goal
+
+pub place-requires : goal.place-requires
+place-requires c = rw c.difference.ensures (low32-fits _)
+
+pub returns : goal.returns
+returns c = cc

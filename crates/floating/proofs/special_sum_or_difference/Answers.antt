@@ -1,0 +1,13 @@
+-- `special_sum_or_difference` meets its contract: by the sign with which the second is added, where one is zero or reserved. Assumes nothing.
+use Rattle.std.proofs.Common.{ap, ◌∙◌}
+use Rattle.floating.specs.Format.{F}
+use Rattle.floating.specs.Operations.{answered}
+use Rattle.floating.proofs.Packing.{F-sound}
+use Rattle.floating.proofs.Sums.{combined-sum}
+use Rattle.floating.proofs.special_sum_or_difference.Goals as goal
+
+pub returns : goal.returns
+returns c = λ exc.
+    let a = c.args in
+    let t = c.sign_added in
+    c.add_special.ensures exc ∙ ap (answered exc) (combined-sum F F-sound a.a a.b a.minus t.result t.ensures.1)

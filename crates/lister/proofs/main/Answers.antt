@@ -1,0 +1,12 @@
+-- `main` is safe: the text lies within the bytes lent. Assumes nothing.
+use Prim.Native.Nat.{ℕ}
+use lib.ListN.{length-replicate}
+use Rattle.listing.proofs.Printing.{listed-length, printed-within, printed-part}
+use borrow.Author.Rules.{rules}
+use Rattle.lister.proofs.main.Goals as goal
+
+pub slice_bounds-text-end : goal.slice_bounds-text-end
+slice_bounds-text-end c = search (printed-within, listed-length, length-replicate {A = ℕ} 25663 0, rules)
+
+pub slice_bounds-write_all-end : goal.slice_bounds-write_all-end
+slice_bounds-write_all-end c = search (printed-part, listed-length, length-replicate {A = ℕ} 25663 0, rules)

@@ -1,0 +1,47 @@
+-- `register_products` meets its contract: the elements of the set that are left are still to be multiplied or divided. Assumes nothing.
+use Rattle.machine.proofs.LaneLoops.{lands, takes}
+use Rattle.machine.specs.Working.{plainly}
+use Rattle.element.specs.Working.{product_work}
+use mathlib.Core.Bool.{false}
+use mathlib.Core.Path.{refl}
+use Prim.Native.Nat.{◌<◌}
+use native.Mathlib.Omega.{arith}
+use borrow.Author.Rules.{rules}
+use Rattle.numbers.proofs.SetBits.{starts-walk, ends-walk, index_below, less-left, turns-walk}
+use Rattle.machine.proofs.lanes.register_products.Goals as goal
+use Rattle.machine.proofs.lanes.register_products.Goals.{After-lowest}
+
+pub loop-left-init : goal.loop-left-init
+loop-left-init c = search (starts-walk, rules)
+
+-- the element of a turn
+index : (l : After-lowest) → l.lowest.result < 64
+index l =
+    let v = l.loop-left.invariant in
+    index_below _ _ _ _ _ _ v (omega arith) v.small _ l.lowest.ensures
+
+pub loop-left-smaller : goal.loop-left-smaller
+loop-left-smaller c =
+    let v = c.loop-left.invariant in
+    less-left _ _ _ _ _ _ v (omega arith) v.small _ c.lowest.ensures _ c.without_lowest-left.ensures
+
+pub loop-left-preserved : goal.loop-left-preserved
+loop-left-preserved c =
+    let v = c.loop-left.invariant in
+    let a = c.args in
+    let w = plainly (product_work a.divide) a.instruction.exc false in
+    turns-walk _ _ _ _ _ _ v (omega arith) v.small _ c.lowest.ensures _ c.without_lowest-left.ensures _
+    (takes w false a.instruction 0 _ _ _ _ c.va_of-a.ensures
+    (lands w a.instruction _ _ _ _ _ _ _ c.vb_of-b.ensures refl refl c.product-types.ensures))
+
+pub returns : goal.returns
+returns c = search (ends-walk, rules)
+
+pub va_of-a-requires : goal.va_of-a-requires
+va_of-a-requires c = search (index, rules)
+
+pub vb_of-b-requires : goal.vb_of-b-requires
+vb_of-b-requires c = search (index, rules)
+
+pub product-types-requires : goal.product-types-requires
+product-types-requires c = search (index, rules)

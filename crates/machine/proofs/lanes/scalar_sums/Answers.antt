@@ -1,0 +1,55 @@
+-- `scalar_sums` meets its contract: the elements of the set that are left are still to be added or subtracted. Assumes nothing.
+use Rattle.machine.proofs.LaneLoops.{lands, takes}
+use Rattle.machine.specs.Working.{plainly}
+use Rattle.element.specs.Working.{sum_work}
+use mathlib.Core.Bool.{true, false}
+use mathlib.Core.Logic.{⊎_elim}
+use mathlib.Core.Path.{refl, sym, ◌∙◌}
+use Prim.Native.Nat.{◌<◌}
+use native.Mathlib.Omega.{arith}
+use borrow.Author.Rules.{rules}
+use Rattle.numbers.proofs.SetBits.{starts-walk, ends-walk, index_below, less-left, turns-walk}
+use Rattle.machine.proofs.lanes.scalar_sums.Goals as goal
+use Rattle.machine.proofs.lanes.scalar_sums.Goals.{After-lowest}
+
+pub loop-left-init : goal.loop-left-init
+loop-left-init c = search (starts-walk, rules)
+
+-- the element of a turn
+index : (l : After-lowest) → l.lowest.result < 64
+index l =
+    let v = l.loop-left.invariant in
+    index_below _ _ _ _ _ _ v (omega arith) v.small _ l.lowest.ensures
+
+pub special_sum_or_difference-o-requires : goal.special_sum_or_difference-o-requires
+special_sum_or_difference-o-requires c = sym c.is_special.ensures ∙ c.if-is_special.true
+
+pub common_sum_or_difference-o-requires : goal.common_sum_or_difference-o-requires
+common_sum_or_difference-o-requires c = sym c.is_special.ensures ∙ c.if-is_special.false
+
+pub loop-left-smaller : goal.loop-left-smaller
+loop-left-smaller c =
+    let v = c.loop-left.invariant in
+    less-left _ _ _ _ _ _ v (omega arith) v.small _ c.lowest.ensures _ c.without_lowest-left.ensures
+
+pub loop-left-preserved : goal.loop-left-preserved
+loop-left-preserved c =
+    let v = c.loop-left.invariant in
+    let a = c.args in
+    let w = plainly (sum_work a.minus) a.instruction.exc false in
+    turns-walk _ _ _ _ _ _ v (omega arith) v.small _ c.lowest.ensures _ c.without_lowest-left.ensures _
+    (takes w true a.instruction a.x _ _ _ _ refl
+    (lands w a.instruction _ _ _ _ _ _ c.if-is_special.o c.vb_of-b.ensures c.vc_of-c.ensures
+    (⊎_elim (λ w. w.2 ∙ w.1.ensures _) (λ w. w.2 ∙ w.1.ensures) c.if-is_special.came) c.land-types.ensures))
+
+pub returns : goal.returns
+returns c = search (ends-walk, rules)
+
+pub vb_of-b-requires : goal.vb_of-b-requires
+vb_of-b-requires c = search (index, rules)
+
+pub vc_of-c-requires : goal.vc_of-c-requires
+vc_of-c-requires c = search (index, rules)
+
+pub land-types-requires : goal.land-types-requires
+land-types-requires c = search (index, rules)

@@ -1,0 +1,23 @@
+-- `either` meets its contract: longwords, and F by the opposite. Assumes nothing.
+use Rattle.machine.proofs.Compares.{odd-below, opposite-found, opposite-refused}
+use Rattle.opcodes.proofs.Test.{only-left}
+use Rattle.element.specs.Working.{compare_arms}
+use borrow.Author.Rules.{rules}
+use Rattle.machine.proofs.mask.either.Goals as goal
+
+pub returns-in-4 : goal.returns-in-4
+returns-in-4 c =
+    let e = c.longwords.ensures in
+    rw c.in_default.keys1 (odd-below _ _ _ e.0, odd-below _ _ _ e.1)
+
+pub returns-in_default : goal.returns-in_default
+returns-in_default c =
+    let a = c.args in
+    let i = a.instruction in
+    let l = a.elements.now in
+    let e = c.every.ensures in
+    let o = c.opposed.ensures in
+    rw (only-left 13 compare_arms _ c.requires.0 c.in_default.rest, o.1) (
+      opposite-found a.relation i.scalar i a.x l a.n _ _ _ e.0 e.1 (search rules) o.0,
+      opposite-refused a.relation i.scalar i a.x l a.n _ e.1,
+    )

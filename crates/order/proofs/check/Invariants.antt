@@ -1,0 +1,11 @@
+-- `check` meets its contract: after i entries the sets are those of the first i. Assumes nothing.
+use Prim.Native.Nat.{◌-◌}
+use lib.ListN.{length}
+use Rattle.order.proofs.Marking.{Marked}
+use Rattle.order.proofs.check.Given as goal
+
+abbrev pub invariant-loop-i : goal.invariant-loop-i
+invariant-loop-i l = Marked l.n l.vlr l.iotas l.bound l.list l.left l.i
+
+abbrev pub decreases-loop-i : goal.decreases-loop-i
+decreases-loop-i l = length l.list - l.i
