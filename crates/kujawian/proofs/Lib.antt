@@ -1,4 +1,4 @@
--- The numbers of a reading, five numbers as a control record, and the walk of a control write.
+-- The numbers of a reading, five numbers as a control record, and what a control write leaves.
 pub mod Fields
 pub mod Stored
 pub mod Writes

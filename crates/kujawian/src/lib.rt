@@ -1,6 +1,6 @@
-// Every call of Kujawian, exported for C over plain data. Each returns document 01's number and
-// writes what stands beside it; after a refusal nothing else has changed. To C the control record
-// and its five numbers are the same.
+// Every call of Kujawian, over plain data as C hands it (`kujawian_c` exports them). Each returns
+// document 01's number and writes what stands beside it; after a refusal nothing else has changed.
+// To C the control record and its five numbers are the same.
 #![tactic(auto)]
 
 mod answers;
@@ -24,51 +24,44 @@ use panel::Panel;
 use state::answer::Answer;
 use state::{Control, Element, Register, answer, marks};
 
-#[unsafe(no_mangle)]
-pub extern "C" fn kuj_read_vlr(control: &[u64; 5], beside: &mut u64) -> u32
+pub fn kuj_read_vlr(control: &[u64; 5], beside: &mut u64) -> u32
     ensures { (result, beside.new) ≡ numbers (vlr_read (control_of control.now)) }
 {
     answers::give(control::read_vlr(record::of(control)), beside)
 }
 
-#[unsafe(no_mangle)]
-pub extern "C" fn kuj_read_vcr(control: &[u64; 5], beside: &mut u64) -> u32
+pub fn kuj_read_vcr(control: &[u64; 5], beside: &mut u64) -> u32
     ensures { (result, beside.new) ≡ numbers (vcr_read (control_of control.now)) }
 {
     answers::give(control::read_vcr(record::of(control)), beside)
 }
 
-#[unsafe(no_mangle)]
-pub extern "C" fn kuj_read_vmr_low(control: &[u64; 5], beside: &mut u64) -> u32
+pub fn kuj_read_vmr_low(control: &[u64; 5], beside: &mut u64) -> u32
     ensures { (result, beside.new) ≡ numbers (vmr_low_read (control_of control.now)) }
 {
     answers::give(control::read_vmr_low(record::of(control)), beside)
 }
 
-#[unsafe(no_mangle)]
-pub extern "C" fn kuj_read_vmr_high(control: &[u64; 5], beside: &mut u64) -> u32
+pub fn kuj_read_vmr_high(control: &[u64; 5], beside: &mut u64) -> u32
     ensures { (result, beside.new) ≡ numbers (vmr_high_read (control_of control.now)) }
 {
     answers::give(control::read_vmr_high(record::of(control)), beside)
 }
 
-#[unsafe(no_mangle)]
-pub extern "C" fn kuj_read_vaer(control: &[u64; 5], beside: &mut u64) -> u32
+pub fn kuj_read_vaer(control: &[u64; 5], beside: &mut u64) -> u32
     ensures { (result, beside.new) ≡ numbers (vaer_read (control_of control.now)) }
 {
     answers::give(control::read_vaer(record::of(control)), beside)
 }
 
-#[unsafe(no_mangle)]
-pub extern "C" fn kuj_read_vpsr(control: &[u64; 5], beside: &mut u64) -> u32
+pub fn kuj_read_vpsr(control: &[u64; 5], beside: &mut u64) -> u32
     ensures { (result, beside.new) ≡ numbers (vpsr_read (control_of control.now)) }
 {
     answers::give(control::read_vpsr(record::of(control)), beside)
 }
 
 // The control writes alter the record where the caller keeps it: a refusal stores nothing.
-#[unsafe(no_mangle)]
-pub extern "C" fn kuj_write_vlr(control: &mut Control, value: u64, beside: &mut u64) -> u32
+pub fn kuj_write_vlr(control: &mut Control, value: u64, beside: &mut u64) -> u32
     ensures { ((result, beside.new), control.new) ≡ given (vlr_written control.old value) }
 {
     let after = control::write_vlr(*control, value);
@@ -78,8 +71,7 @@ pub extern "C" fn kuj_write_vlr(control: &mut Control, value: u64, beside: &mut 
     answers::give(after.answer, beside)
 }
 
-#[unsafe(no_mangle)]
-pub extern "C" fn kuj_write_vcr(control: &mut Control, value: u64, beside: &mut u64) -> u32
+pub fn kuj_write_vcr(control: &mut Control, value: u64, beside: &mut u64) -> u32
     ensures { ((result, beside.new), control.new) ≡ given (vcr_written control.old value) }
 {
     let after = control::write_vcr(*control, value);
@@ -89,8 +81,7 @@ pub extern "C" fn kuj_write_vcr(control: &mut Control, value: u64, beside: &mut 
     answers::give(after.answer, beside)
 }
 
-#[unsafe(no_mangle)]
-pub extern "C" fn kuj_write_vmr_low(control: &mut Control, value: u32, beside: &mut u64) -> u32
+pub fn kuj_write_vmr_low(control: &mut Control, value: u32, beside: &mut u64) -> u32
     ensures { ((result, beside.new), control.new) ≡ given (vmr_low_written control.old value) }
 {
     let after = control::write_vmr_low(*control, value);
@@ -100,8 +91,7 @@ pub extern "C" fn kuj_write_vmr_low(control: &mut Control, value: u32, beside: &
     answers::give(after.answer, beside)
 }
 
-#[unsafe(no_mangle)]
-pub extern "C" fn kuj_write_vmr_high(control: &mut Control, value: u32, beside: &mut u64) -> u32
+pub fn kuj_write_vmr_high(control: &mut Control, value: u32, beside: &mut u64) -> u32
     ensures { ((result, beside.new), control.new) ≡ given (vmr_high_written control.old value) }
 {
     let after = control::write_vmr_high(*control, value);
@@ -111,8 +101,7 @@ pub extern "C" fn kuj_write_vmr_high(control: &mut Control, value: u32, beside: 
     answers::give(after.answer, beside)
 }
 
-#[unsafe(no_mangle)]
-pub extern "C" fn kuj_write_vpsr(control: &mut Control, value: u32, beside: &mut u64) -> u32
+pub fn kuj_write_vpsr(control: &mut Control, value: u32, beside: &mut u64) -> u32
     ensures { ((result, beside.new), control.new) ≡ given (vpsr_written control.old value) }
 {
     let after = control::write_vpsr(*control, value);
@@ -123,8 +112,7 @@ pub extern "C" fn kuj_write_vpsr(control: &mut Control, value: u32, beside: &mut
 }
 
 // Executes one instruction.
-#[unsafe(no_mangle)]
-pub extern "C" fn kuj_execute(
+pub fn kuj_execute(
     elements: &mut [u64; 1024],
     control: &mut [u64; 5],
     marks: &mut [u64; 16],
@@ -157,8 +145,7 @@ pub extern "C" fn kuj_execute(
 }
 
 // Runs a queue straight through.
-#[unsafe(no_mangle)]
-pub extern "C" fn kuj_run(
+pub fn kuj_run(
     elements: &mut [u64; 1024],
     control: &mut [u64; 5],
     marks: &mut [u64; 16],
@@ -183,8 +170,7 @@ pub extern "C" fn kuj_run(
 }
 
 // Runs a queue by a list of its steps. (That a control record is five numbers is its type's; a contract has no fact of it, so the last promise names it.)
-#[unsafe(no_mangle)]
-pub extern "C" fn kuj_run_order(
+pub fn kuj_run_order(
     elements: &mut [u64; 1024],
     control: &mut [u64; 5],
     marks: &mut [u64; 16],
@@ -213,8 +199,7 @@ pub extern "C" fn kuj_run_order(
 }
 
 // Saves the state into lent bytes.
-#[unsafe(no_mangle)]
-pub extern "C" fn kuj_save(
+pub fn kuj_save(
     elements: &[u64; 1024],
     control: &[u64; 5],
     file: &mut [u8],
@@ -235,8 +220,7 @@ fn mark_loaded(marks: &mut [u64; 16], given: Answer)
 }
 
 // Loads a state from the bytes of a file.
-#[unsafe(no_mangle)]
-pub extern "C" fn kuj_load(
+pub fn kuj_load(
     elements: &mut [u64; 1024],
     control: &mut [u64; 5],
     marks: &mut [u64; 16],
@@ -253,8 +237,7 @@ pub extern "C" fn kuj_load(
 }
 
 // Clears the marks: no element is marked.
-#[unsafe(no_mangle)]
-pub extern "C" fn kuj_clear_marks(marks: &mut [u64; 16], beside: &mut u64) -> u32
+pub fn kuj_clear_marks(marks: &mut [u64; 16], beside: &mut u64) -> u32
     ensures { ((result, beside.new), marks.new) ≡ cleared }
 {
     marks::clear(marks);
@@ -262,8 +245,7 @@ pub extern "C" fn kuj_clear_marks(marks: &mut [u64; 16], beside: &mut u64) -> u3
 }
 
 // The reading of an element, as its kind and its bits.
-#[unsafe(no_mangle)]
-pub extern "C" fn kuj_reading(
+pub fn kuj_reading(
     elements: &[u64; 1024],
     control: &[u64; 5],
     reg: u32,
