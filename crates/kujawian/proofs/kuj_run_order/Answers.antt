@@ -6,5 +6,9 @@ use Rattle.kujawian.proofs.kuj_run_order.Goals as goal
 pub returns : goal.returns
 unfolding left
 returns c =
-    record { straight = rw (c.give.ensures, c.store.ensures, ← c.of.ensures) (rw (← c.run_order-after.ensures.straight)); walked = rw (c.give.ensures, c.store.ensures, ← c.of.ensures) (rw (← c.run_order-after.ensures.walked)); demand = λ five. list-claim _ _ _ c.run_order-after.result.answer _ _ _ _ _ _ _ five c.give.ensures c.store.ensures
-            (rw c.of.ensures at c.run_order-after.ensures.demand) }
+    record {
+      straight = rw (c.give.ensures, c.store.ensures, ← c.of.ensures) (rw (← c.run_order-after.ensures.straight));
+      walked = rw (c.give.ensures, c.store.ensures, ← c.of.ensures) (rw (← c.run_order-after.ensures.walked));
+      demand = λ five. list-claim _ _ _ c.run_order-after.result.answer _ _ _ _ _ _ _ five c.give.ensures c.store.ensures
+          (rw c.of.ensures at c.run_order-after.ensures.demand);
+    }

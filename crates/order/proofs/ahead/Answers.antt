@@ -6,17 +6,17 @@ use Rattle.order.proofs.Taking.{none-taken, Going, goes_through}
 use Rattle.order.proofs.ahead.Goals as goal
 use Rattle.order.proofs.ahead.Goals.{After-pair-half, After-pair-i, At-loop-i}
 
--- the entries from the first up to i are taken
-abbrev Taken : At-loop-i → List ℕ → ℕ → Type 0
-Taken c left i = let a = c.args in Going a.n a.iotas a.bound.now a.list.now a.left.now a.from left i
-
 -- after half a turn, and after a turn
-half : (c : After-pair-half) → Taken c c.pair-half.new.left c.pair-half.result
+half : (c : After-pair-half) →
+    Going c.args.n c.args.iotas c.args.bound.now c.args.list.now c.args.left.now c.args.from c.pair-half.new.left c.pair-half.result
 half c = goes_through _ _ _ _ _ _ _ _ c.requires.left_len.1 c.loop-i.invariant _ _ c.pair-half.ensures
 
-whole : (c : After-pair-i) → Taken c c.pair-i.new.left c.pair-i.result
+whole : (c : After-pair-i) →
+    Going c.args.n c.args.iotas c.args.bound.now c.args.list.now c.args.left.now c.args.from c.pair-i.new.left c.pair-i.result
 whole c =
-    goes_through _ _ _ _ _ _ _ _ c.requires.left_len.1 (half c) _ _ c.pair-i.ensures
+    goes_through _ _ _ _ _ _ _ _ c.requires.left_len.1
+    (goes_through _ _ _ _ _ _ _ _ c.requires.left_len.1 c.loop-i.invariant _ _ c.pair-half.ensures)
+    _ _ c.pair-i.ensures
 
 pub returns-then-list-lt3 : goal.returns-then-list-lt3
 returns-then-list-lt3 c = none-taken _ _ _ _ _ _ c.requires.left_len.2

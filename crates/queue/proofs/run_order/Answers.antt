@@ -52,18 +52,18 @@ pub walk-progress-requires : goal.walk-progress-requires
 walk-progress-requires c =
     let z = c.args in
     list-meets _ z.elements.now z.marks.now _ _ _ c.accept-accepted.ensures (fine (goal.at.walk-progress-requires c).Else-not-is_done) _ _ _ _ c.loop-k.invariant c.loop-k-test.false
-    z.list.now _ c.check.ensures c.enum_told-1.given.1 _ c.begin.ensures
+    z.list.now _ c.check.ensures c.in-Permitted.is.1 _ c.begin.ensures
 
 pub returns-in-Permitted : goal.returns-in-Permitted
 returns-in-Permitted c =
     let z = c.args in
     three-promises _ z.list.now (marked (state z.elements.now z.control) z.marks.now) _
     (listed-done _ z.elements.now z.marks.now _ _ _ c.accept-accepted.ensures (fine (goal.at.returns-in-Permitted c).Else-not-is_done) _ _ _ _ c.loop-k.invariant c.loop-k-test.false
-    z.list.now _ c.check.ensures c.enum_told-1.given.1 _ c.begin.ensures _ _ _ _ c.end.ensures c.walk-progress.ensures)
+    z.list.now _ c.check.ensures c.in-Permitted.is.1 _ c.begin.ensures _ _ _ _ c.end.ensures c.walk-progress.ensures)
 
 pub returns-in-Refused : goal.returns-in-Refused
 returns-in-Refused c =
     let z = c.args in
     three-promises _ z.list.now (marked (state z.elements.now z.control) z.marks.now) _
     (listed-stopped _ z.elements.now z.marks.now _ _ _ c.accept-accepted.ensures (fine (goal.at.returns-in-Refused c).Else-not-is_done) _ _ _ _ c.loop-k.invariant c.loop-k-test.false
-    z.list.now _ c.check.ensures _ c.place-1.given.1 c.refused-in-Refused.result c.refused-in-Refused.ensures)
+    z.list.now _ c.check.ensures _ c.in-Refused.place.1 c.refused-in-Refused.result c.refused-in-Refused.ensures)
