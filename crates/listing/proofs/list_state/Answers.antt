@@ -2,7 +2,6 @@
 use native.Mathlib.Omega.{arith}
 use Rattle.listing.proofs.Printing.{lengths, passed, out_of_range_lem, state-no-room, state-listed}
 use borrow.Author.Rules.{rules}
-use borrow.Author.Tests.{not-false}
 use Rattle.listing.proofs.list_state.Goals as goal
 
 pub returns-then-not-in_range : goal.returns-then-not-in_range
@@ -13,7 +12,7 @@ returns-then-text-lt-LISTING_ROOM c = search (state-no-room, passed, rules)
 
 pub control_lines-requires : goal.control_lines-requires
 control_lines-requires c =
-    let h = lengths _ (passed _ _ c.in_range.ensures (not-false _ c.if-not-in_range.false)) in
+    let h = lengths _ (passed _ _ c.in_range.ensures c.if-not-in_range.false) in
     (h.0, h.1, omega arith)
 
 pub returns : goal.returns

@@ -19,6 +19,9 @@ returns c =
     c.width.ensures c.width-2.ensures
     c.line-a.ensures c.line-b.ensures c.line-c.ensures c.line-d.ensures c.line.ensures
 
+pub line-a-requires : goal.line-a-requires
+line-a-requires c = omega (arith, narrow (goal.at.line-a-requires c).After-width)
+
 pub line-b-requires : goal.line-b-requires
 line-b-requires c = omega (arith, narrow (goal.at.line-b-requires c).After-width)
 

@@ -41,7 +41,7 @@ pub loop-left-preserved : goal.loop-left-preserved
 unfolding store_at
 loop-left-preserved c = (
   goes_on c.loop-left.invariant.0 (omega arith) c.lowest-i.ensures c.without_lowest-left.ensures _
-      (rw c.place.ensures c c.store_one.ensures),
+      (rw c.place.ensures at c.store_one.ensures),
   search rules,
 )
 
