@@ -19,14 +19,14 @@ returns-then-not-in_range c =
 pub carry_out-requires : goal.carry_out-requires
 carry_out-requires c =
     may-run (first (goal.at.carry_out-requires c).Start) _ _ 0 0 0 [] 0 _ c.in_range.ensures (ap not c.if-not-in_range.false) _ c.enabled.ensures
-    _ c.decode-decoded.ensures _ c.in-Accepted.instruction.1
+    _ c.decode-decoded.ensures _ c.in-Accepted.is
 
 pub returns-in-Refused : goal.returns-in-Refused
 returns-in-Refused c =
     refuses (first (goal.at.returns-in-Refused c).Start) _ _ _ _ _ _ _ _ c.in_range.ensures (ap not c.if-not-in_range.false) _ c.enabled.ensures
-    _ c.decode-decoded.ensures _ c.in-Refused.refusal.1 c.refused-in-Refused.result c.refused-in-Refused.ensures
+    _ c.decode-decoded.ensures _ c.in-Refused.is c.refused-in-Refused.result c.refused-in-Refused.ensures
 
 pub returns-in-Accepted : goal.returns-in-Accepted
 returns-in-Accepted c =
     executes (first (goal.at.returns-in-Accepted c).Start) _ _ _ _ _ _ _ _ c.in_range.ensures (ap not c.if-not-in_range.false) _ c.enabled.ensures
-    _ c.decode-decoded.ensures _ c.in-Accepted.instruction.1 _ c.carry_out.ensures
+    _ c.decode-decoded.ensures _ c.in-Accepted.is _ c.carry_out.ensures
