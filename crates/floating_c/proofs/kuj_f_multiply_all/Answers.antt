@@ -17,7 +17,7 @@ loop-i-preserved c =
       omega arith,
       omega arith,
       simp length-set (search rules),
-      turns _ _ _ l.out l.i c.multiply-r.result (omega arith) c.multiply-r.ensures l.inv.5,
+      turns _ _ _ l.out l.i c.multiply-r.result (omega arith) c.multiply-r.ensures l.invariant.5,
     )
 
 pub returns : goal.returns

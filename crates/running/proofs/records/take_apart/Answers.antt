@@ -15,9 +15,9 @@ loop-k-preserved c =
     let l = c.loop-k in
     let r = c.args.records.now in (
       omega arith,
-      filled-turns (opcode_at r) _ _ _ _ l.inv.1 (part-is opcode_in r l.k _ c.opcode.ensures),
-      filled-turns (control_word_at r) _ _ _ _ l.inv.2 (part-is control_word_in r l.k _ c.control_word.ensures),
-      filled-turns (scalar_at r) _ _ _ _ l.inv.3 (part-is scalar_in r l.k _ c.scalar.ensures),
+      filled-turns (opcode_at r) _ _ _ _ l.invariant.1 (part-is opcode_in r l.k _ c.opcode.ensures),
+      filled-turns (control_word_at r) _ _ _ _ l.invariant.2 (part-is control_word_in r l.k _ c.control_word.ensures),
+      filled-turns (scalar_at r) _ _ _ _ l.invariant.3 (part-is scalar_in r l.k _ c.scalar.ensures),
     )
 
 pub returns : goal.returns
