@@ -22,4 +22,4 @@ returns c =
     c.of_two_more-r.ensures
     ∙ ap (answered a.exc)
     (product-placed F a.a a.b (F.bits + 2) (F.bits - 2) _ _ _ _ _ _ (lit< tt) (lit≤ tt) c.sign_of_product-s.ensures.0 c.exponent_of-ea.ensures
-    c.exponent_of-eb.ensures n.0 n.1 c.significand_of.ensures c.significand_of-2.ensures x.0 x.1)
+    c.exponent_of-eb.ensures n.0 n.1 c.short_significand_of.ensures c.short_significand_of-2.ensures x.0 x.1)
