@@ -1,6 +1,5 @@
 -- `fill` meets its contract: after p turns the first p groups are right. Assumes nothing.
 use mathlib.Core.Path.{refl}
-use Prim.Native.Nat.{◌-◌}
 use native.Mathlib.Omega.{arith}
 use borrow.Author.Rules.{rules}
 use Rattle.order.proofs.Filling.{fill_none, fill_more}

@@ -15,7 +15,7 @@ straight-progress-requires c =
     through-meets _ c.args.elements.now c.args.marks.now _ _ c.accept-accepted.ensures.answered fine c.accept-accepted.result.program
     (c.accept-accepted.ensures.decoded fine) _
     c.begin.ensures in
-    record { vlr_bound = all.0; by_index = all.1 }
+    record { sizes = all.0; runs = all.1 }
 
 pub returns : goal.returns
 returns c =

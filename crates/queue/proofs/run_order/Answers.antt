@@ -50,7 +50,7 @@ check-requires c =
     let all =
     check-meets _ c.args.elements.now c.args.marks.now _ _ _ c.accept-accepted.ensures (fine (goal.at.check-requires c).Else-not-is_done) _ _ _ _ c.loop-k.invariant
     c.loop-k-test.false in
-    record { n_bound = all.0; by_index = all.1 }
+    record { sizes = all.0; earlier = all.1 }
 
 pub walk-progress-requires : goal.walk-progress-requires
 walk-progress-requires c =
@@ -58,7 +58,7 @@ walk-progress-requires c =
     let all =
     list-meets _ z.elements.now z.marks.now _ _ _ c.accept-accepted.ensures (fine (goal.at.walk-progress-requires c).Else-not-is_done) _ _ _ _ c.loop-k.invariant c.loop-k-test.false
     z.list.now _ c.check.ensures c.in-Permitted.is _ c.begin.ensures in
-    record { vlr_bound = all.0; by_index = all.1.0; by_index_2 = all.1.1 }
+    record { sizes = all.0; runs = all.1.0; positions = all.1.1 }
 
 pub returns-in-Permitted : goal.returns-in-Permitted
 returns-in-Permitted c =

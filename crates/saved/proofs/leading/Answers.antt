@@ -1,6 +1,5 @@
 -- `leading` meets its contract: the k records passed are good. Assumes nothing.
 use mathlib.Core.Path.{sym, ◌∙◌}
-use Prim.Native.Nat.{◌-◌}
 use native.Mathlib.Omega.{arith}
 use borrow.Author.Rules.{rules}
 use Rattle.saved.proofs.Loading.{cut, whole, starts, turns, stops, ends}

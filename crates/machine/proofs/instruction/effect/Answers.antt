@@ -7,7 +7,7 @@ use Rattle.machine.proofs.instruction.effect.Goals as goal
 pub over-requires : goal.over-requires
 over-requires c =
     let mask = sym c.writes_mask.ensures ∙ c.if-writes_mask.true in
-    record { below = (c.requires.below.0, search rules, mask); by_index = c.requires.by_index }
+    record { below = (c.requires.below.0, search rules, mask); within = c.requires.within }
 
 pub returns-then-writes_mask : goal.returns-then-writes_mask
 returns-then-writes_mask c = λ k g e f h. c.over.ensures k g f h
