@@ -40,7 +40,7 @@ loop-left-preserved c =
     (takes w false a.instruction 0 _ _ _ _ c.va_of-a.ensures
     (lands w a.instruction _ _ _ _ _ _ c.if-is_special.o c.vb_of-b.ensures c.vc_of-c.ensures
     (elim c.if-is_special.branch [
-      then-is_special w ↦ w.o-is ∙ w.special_sum_or_difference-o.ensures _
+      | then-is_special w ↦ w.o-is ∙ w.special_sum_or_difference-o.ensures _
       | else-is_special w ↦ w.o-is ∙ w.common_sum_or_difference-o.ensures
     ]) c.land-types.ensures))
 

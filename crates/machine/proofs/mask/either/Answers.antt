@@ -20,5 +20,5 @@ returns-in_default c =
     let left = only-left 13 compare_arms _ c.requires.0 c.in_default.in_default-own.rest in
     record {
       found = rw left (opposite-found a.relation i.scalar i a.x l a.n _ _ _ e.found e.refused (search rules) o.found);
-      refused = rw (left, o.refused) (opposite-refused a.relation i.scalar i a.x l a.n _ e.refused)
+      refused = rw (left, o.refused) (opposite-refused a.relation i.scalar i a.x l a.n _ e.refused);
     }
