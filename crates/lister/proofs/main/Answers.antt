@@ -1,8 +1,7 @@
 -- `main` is safe: the text lies within the bytes lent. Assumes nothing.
-use Prim.Native.Nat.{ℕ}
+use Rattle.std.proofs.Common.{ℕ, rules}
 use lib.ListN.{length-replicate}
 use Rattle.listing.proofs.Printing.{listed-length, printed-within, printed-part}
-use borrow.Author.Rules.{rules}
 use Rattle.lister.proofs.main.Goals as goal
 
 pub slice_bounds-text-end : goal.slice_bounds-text-end

@@ -1,9 +1,8 @@
 -- `main` is safe: the text lies within the bytes lent. Assumes nothing.
-use Prim.Native.Nat.{ℕ}
+use Rattle.std.proofs.Common.{ℕ, rules}
 use lib.ListN.{length-replicate}
 use Rattle.listing.proofs.Printing.{printed-within, printed-part}
 use Rattle.running.proofs.Texts.{run-text-length}
-use borrow.Author.Rules.{rules}
 use Rattle.runner.proofs.main.Goals as goal
 
 pub slice_bounds-text-end : goal.slice_bounds-text-end
