@@ -2,12 +2,10 @@
 -- permitted one is walked, and demand 3 says that its entries end where the straight run ends. Assumes nothing.
 use mathlib.Core.Path.{◌≡◌, sym, ◌∙◌}
 use mathlib.Core.Bool.{true}
-use Prim.Native.Nat.{◌-◌}
 use native.Mathlib.Omega.{arith}
 use Rattle.state.specs.Answer.{is_done}
 use Rattle.state.specs.Marks.{marked}
 use Rattle.state.specs.State.{state}
-use Rattle.touch.specs.Parts.{queue}
 use Rattle.queue.proofs.Preparing.{prepared-none, prepared-more}
 use Rattle.queue.proofs.Preparing.{listed-refused, listed-few, listed_below, listed-register, check-meets, listed-stopped, list-meets, listed-done}
 use Rattle.queue.proofs.DemandThree.{three-promises}

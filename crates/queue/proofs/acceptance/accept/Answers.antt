@@ -1,7 +1,6 @@
 -- `accept` meets its contract: the loop passes the positions that decoding accepts, and keeps the instruction of each. Assumes nothing.
 use mathlib.Core.Path.{◌≡◌, refl, sym, ◌∙◌}
 use mathlib.Core.Bool.{true}
-use Prim.Native.Nat.{◌-◌}
 use borrow.Author.Rules.{rules}
 use Rattle.state.specs.Answer.{is_done}
 use Rattle.queue.proofs.Calls.{stands-bounded}

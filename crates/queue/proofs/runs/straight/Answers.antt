@@ -1,5 +1,4 @@
 -- `straight` meets its contract: after k turns the first k instructions are done. Assumes nothing.
-use Prim.Native.Nat.{◌-◌}
 use borrow.Author.Rules.{rules}
 use Rattle.numbers.proofs.Rising.{starts, turns, ends}
 use Rattle.queue.proofs.Through.{whole-short}

@@ -1,6 +1,5 @@
 -- `walk` meets its contract: what is left of the list, run from here, gives what the whole list gives. Assumes nothing.
 use mathlib.Core.Path.{refl, ap, ◌∙◌}
-use Prim.Native.Nat.{◌-◌}
 use Rattle.order.proofs.RunLoop.{run-start, run-one, run_end}
 use Rattle.queue.proofs.Through.{act-vlr, vlr_of}
 use Rattle.queue.proofs.runs.walk.Goals as goal
