@@ -1,5 +1,4 @@
 -- `take_apart` meets its contract: the first k places of each part are filled. Assumes nothing.
-use Prim.Native.Nat.{◌-◌}
 use native.Mathlib.Omega.{arith}
 use Rattle.running.specs.Records.{opcode_in, control_word_in, scalar_in, opcode_at, control_word_at, scalar_at}
 use Rattle.saved.proofs.Loading.{part-is}
