@@ -1,5 +1,5 @@
 -- The product of two numbers from their halves of h digits, so that no product of more than h digits by h is made. Over the width h. Assumes nothing.
-use Rattle.std.proofs.Common.{◌≡◌, ℕ, ◌+◌, ◌-◌, ◌*◌, ◌/◌, ◌%◌, ◌^◌, ◌<◌, ◌≤◌, sym, refl, ap, ◌∙◌, ap₂, le_trans, le_of_eq, lt_of_lt_of_le, lt_of_le_of_lt, add_assoc, mul_assoc, mul_comm, div-lt_iff_lt-mul, add-mul, add_comm, div-add-mod', le-div_iff_mul-le, mul-add, mul_left_comm, arith, pow_pos, pow-add}
+use Rattle.std.proofs.Common.{◌≡◌, ℕ, ◌+◌, ◌-◌, ◌*◌, ◌/◌, ◌%◌, ◌^◌, ◌<◌, ◌≤◌, sym, ap, ◌∙◌, ap₂, le_trans, le_of_eq, lt_of_lt_of_le, lt_of_le_of_lt, add_assoc, mul_assoc, mul_comm, div-lt_iff_lt-mul, add-mul, add_comm, div-add-mod', le-div_iff_mul-le, mul-add, mul_left_comm, arith, pow_pos, pow-add}
 use native.Mathlib.Nat.{add_left_comm, div-div-eq-div-mul}
 use native.Mathlib.Nat.{mul-add-div_right}
 use Rattle.floating.proofs.Arithmetic.{pow-two}

@@ -33,12 +33,35 @@ module _ (f : Format) (a b : ℕ) where
       go (inl e) = ap (λ (z : ℕ). z * size_of f b) (size_none f a e) ∙ zero-mul (size_of f b)
       go (inr p) = ap (λ (z : ℕ). size_of f a * z) (size_none f b (h (λ z. omega arith))) ∙ mul-zero (size_of f a)
 
+  -- neither is: the product of the significands, as n digits, at the sum of the exponents
+  pub product-placed : (n s ea eb ma mb x : ℕ) → n - f.bits ≤ f.bits + f.excess → s ≡ (sign_of f a + sign_of f b) % 2 → ea ≡ exponent_of f a
+      → eb ≡ exponent_of f b
+      → (exponent_of f a ≡ 0 → ⊥) → (exponent_of f b ≡ 0 → ⊥) → ma ≡ significand_of f a → mb ≡ significand_of f b → x ≡ ma * mb
+      → delivered f (placed f n s x (ea + eb) (f.bits + f.excess - (n - f.bits))) ≡ product f a b
+  product-placed n s ea eb ma mb x room hs hea heb na nb hma hmb hx =
+      let w = f.bits + f.excess in
+      let k = n - f.bits in
+      let one : size_of f a ≡ ma * 2 ^ ea = size-fields f a ea ma hea (λ v. na (sym hea ∙ v)) hma in
+      let two : size_of f b ≡ mb * 2 ^ eb = size-fields f b eb mb heb (λ v. nb (sym heb ∙ v)) hmb in
+      let back : w - k + k ≡ w = omega arith in
+      let E : x * 2 ^ (ea + eb) * (2 ^ w * 2 ^ w) ≡ size_of f a * size_of f b * (2 ^ (w - k + k) * 2 ^ w) =
+      ap₂ (λ (y z : ℕ). y * 2 ^ (ea + eb) * (2 ^ z * 2 ^ w)) hx (sym back)
+      ∙ joined ma mb ea eb (2 ^ (w - k + k) * 2 ^ w)
+      ∙ ap₂ (λ (y z : ℕ). y * z * (2 ^ (w - k + k) * 2 ^ w)) (sym one) (sym two) in
+      delivered-same f s (x * 2 ^ (ea + eb)) (2 ^ (w - k + k) * 2 ^ w) (size_of f a * size_of f b) (2 ^ w * 2 ^ w) (mul-pos (pow_pos (w - k + k)) (pow_pos w))
+      (mul-pos (pow_pos w) (pow_pos w)) E
+      ∙ ap (λ (y : ℕ). delivered f (record { sign = y; num = size_of f a * size_of f b; den = 2 ^ w * 2 ^ w })) hs
+      ∙ numbers-passed f a b (delivered f (times (value_of f a) (value_of f b))) na nb
+    where
+      joined : (u v i j d : ℕ) → u * v * 2 ^ (i + j) * d ≡ u * 2 ^ i * (v * 2 ^ j) * d
+      joined u v i j d = simp (pow-add, mul_assoc, mul_comm, mul_left_comm)
+
   -- neither is: the product of the significands without its last k digits, where more are left than are kept, as n digits, at the sum of the exponents
-  pub product-placed : (n k s ea eb ma mb x : ℕ) → 0 < f.bits → n - f.bits + k ≤ f.bits + f.excess → s ≡ (sign_of f a + sign_of f b) % 2
+  pub product-cut : (n k s ea eb ma mb x : ℕ) → 0 < f.bits → n - f.bits + k ≤ f.bits + f.excess → s ≡ (sign_of f a + sign_of f b) % 2
       → ea ≡ exponent_of f a → eb ≡ exponent_of f b → (exponent_of f a ≡ 0 → ⊥) → (exponent_of f b ≡ 0 → ⊥) → ma ≡ significand_of f a → mb ≡ significand_of f b
       → x ≡ ma * mb / 2 ^ k → 2 ^ f.bits ≤ x
       → delivered f (placed f n s x (ea + eb) (f.bits + f.excess - (n - f.bits + k))) ≡ product f a b
-  product-placed n k s ea eb ma mb x P room hs hea heb na nb hma hmb hx long =
+  product-cut n k s ea eb ma mb x P room hs hea heb na nb hma hmb hx long =
       let w = f.bits + f.excess in
       let j = n - f.bits in
       let up = ea + eb in

@@ -59,7 +59,7 @@ pub fn to_longword(word: u32, halves: u64, exc: bool) -> Flagged
             types: s * 4,
         };
     }
-    let m = word::wide_significand_of(word);
+    let m = word::significand_of(word);
     if e <= format::F_UNIT {
         return Flagged {
             value: longword_of(s, whole_below(e, m, halves)),

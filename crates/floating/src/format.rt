@@ -49,7 +49,9 @@ pub const F_PRODUCT_UPPER: u32 = 1 << 2;
 
 pub const F_PRODUCT_ACROSS: u32 = 1 << (F_HALF - 2);
 // How far a product's exponent field stands below the sum of the exponent fields, where that first digit is 1.
-pub const F_PRODUCT_DOWN: u32 = F_UNIT - F_BITS;
+pub const F_FIRST_DIGITS_DOWN: u32 = F_UNIT - F_BITS;
+// The same with no zero before the product's 64 digits.
+pub const F_PRODUCT_DOWN: u32 = F_UNIT - F_LEFT_OUT;
 
 // A quotient is worked out to one digit more than are kept.
 pub const F_QUOTIENT_DIGITS: u32 = F_BITS + 1;

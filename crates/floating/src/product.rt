@@ -6,6 +6,14 @@ ghost use Rattle.floating.specs.Operations.{answered, product};
 
 use crate::{Flagged, deliver, format, word};
 
+// The product of two significands, in one multiply: no call uses it any more.
+fn whole_product(a: u64, b: u64) -> u64
+    requires { (2 ^ (F.bits - 1) ≤ a) × (a < 2 ^ F.bits) × (2 ^ (F.bits - 1) ≤ b) × (b < 2 ^ F.bits) }
+    ensures { (result ≡ a * b) × (2 ^ (F.bits + F.bits - 2) ≤ result) × (result < 2 ^ (F.bits + F.bits)) }
+{
+    a * b
+}
+
 // The product of two halves of significands. No multiply of F_floating products is wider, for processors that have no wider one (document 02, Q-4).
 fn of_halves(x: u32, y: u32) -> u32
     requires { (x < 2 ^ (F.bits / 2)) × (y < 2 ^ (F.bits / 2)) }
@@ -61,8 +69,8 @@ pub fn of_words(exc: bool, a: u32, b: u32) -> Flagged
         };
     }
     let s = sign_of_product(a, b);
-    let x = first_digits(word::significand_of(a), word::significand_of(b));
-    let r = deliver::of_two_more(exc, s, ea + eb, format::F_PRODUCT_DOWN, x);
+    let x = first_digits(word::short_significand_of(a), word::short_significand_of(b));
+    let r = deliver::of_two_more(exc, s, ea + eb, format::F_FIRST_DIGITS_DOWN, x);
     Flagged {
         value: r.value,
         types: r.types,

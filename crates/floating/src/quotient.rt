@@ -59,8 +59,8 @@ pub fn of_words(exc: bool, a: u32, b: u32) -> Flagged
         };
     }
     let s = product::sign_of_product(a, b);
-    let ma = word::wide_significand_of(a);
-    let mb = word::wide_significand_of(b);
+    let ma = word::significand_of(a);
+    let mb = word::significand_of(b);
     let up = places_up(ma, mb);
     let x = whole_quotient(ma, mb, up);
     let r = deliver::of_one_more(exc, s, ea + format::F_QUOTIENT_UP, eb + up, x);

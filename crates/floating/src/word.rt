@@ -44,17 +44,17 @@ pub fn fraction_of(word: u32) -> u32
     word % format::F_PLACE * 65536 + word / 65536
 }
 
-pub fn significand_of(word: u32) -> u32
+pub fn significand_of(word: u32) -> u64
+    ensures { result ≡ significand_of F word }
+{
+    wide(format::F_FIRST + fraction_of(word))
+}
+
+// The same in 32 bits.
+pub fn short_significand_of(word: u32) -> u32
     ensures { result ≡ significand_of F word }
 {
     format::F_FIRST + fraction_of(word)
-}
-
-// The same in 64 bits, to be moved up.
-pub fn wide_significand_of(word: u32) -> u64
-    ensures { result ≡ significand_of F word }
-{
-    wide(significand_of(word))
 }
 
 pub fn is_zero(word: u32) -> bool

@@ -55,7 +55,7 @@ fn effect(
     vcr: u64,
 ) -> Effect
     requires below { Below instruction × (is_register_work instruction.work ≡ true) × (vlr ≤ 64) }
-    requires by_index { (i : ℕ) → bit which i ≡ true → i < vlr }
+    requires within { (i : ℕ) → bit which i ≡ true → i < vlr }
     ensures { (c : Control) (g : Gathered) → c.vlr ≡ vlr → c.vmr ≡ vmr → c.vcr ≡ vcr → effected_of elements.new instruction result c g ≡ done_for which instruction scalar (run_of elements.old c g) }
 {
     if works::writes_mask(instruction.work) {

@@ -222,7 +222,7 @@ pub fn over(
     vcr: u64,
 ) -> Effect
     requires below { Below instruction × (n ≤ 64) × (writes_mask instruction ≡ true) }
-    requires by_index { (i : ℕ) → bit which i ≡ true → i < n }
+    requires within { (i : ℕ) → bit which i ≡ true → i < n }
     ensures { (c : Control) (g : Gathered) → c.vmr ≡ vmr → c.vcr ≡ vcr → effected elements.now instruction result c g ≡ done_for which instruction x (run_of elements.now c g) }
 {
     let m = either(elements, instruction.vc.0 as u64 % 8, instruction, x, n);

@@ -1,6 +1,5 @@
 -- A whole memory instruction, by what its parts promise. Assumes nothing.
-use Rattle.std.proofs.Common.{◌≡◌, ℕ, ◌+◌, ◌%◌, ◌^◌, ◌≤◌, Bool, true, false, not, List, length, get_or, sym, refl, ap, ◌∙◌, ap₂}
-use borrow.Author.Tests.{not-true, not-false}
+use Rattle.std.proofs.Common.{◌≡◌, ℕ, ◌+◌, ◌%◌, ◌^◌, ◌≤◌, Bool, true, false, List, length, get_or, sym, refl, ap, ◌∙◌, ap₂}
 use Rattle.numbers.specs.Bits.{bit}
 use Rattle.state.specs.declared.answer.Answer.{Answer}
 use Rattle.state.specs.declared.answer.Answer.TheVariants.{Done, WindowRefused}
@@ -87,14 +86,14 @@ module _ (store quadword : Bool) (vc which : ℕ) (place : ℕ → ℕ) (b : Mar
 
 -- `fit` is what the window's test said
 module _ (b : Marked) (ins : Instruction) (base stride : ℕ) (w : List ℕ) (origin : ℕ) (fit : Bool) (said : fit ≡ allowed (length w) origin) where
-  pub refuses : not fit ≡ true → (r : Ended) → outcome r.answer r.control ≡ refused WindowRefused b.state.control
+  pub refuses : fit ≡ false → (r : Ended) → outcome r.answer r.control ≡ refused WindowRefused b.state.control
       → outcome r.answer (marked (state b.state.elements r.control) b.marks, w) ≡ moved_of b ins base stride w origin
   unfolding moved_of
-  refuses e r d = let g : allowed (length w) origin ≡ false = sym said ∙ not-true fit e in rw g (refuses-window b WindowRefused r d w)
+  refuses e r d = let g : allowed (length w) origin ≡ false = sym said ∙ e in rw g (refuses-window b WindowRefused r d w)
 
-  module _ (passed : not fit ≡ false) where
+  module _ (passed : fit ≡ true) where
     pub ends-in-time : origin + length w ≤ 2 ^ 32
-    ends-in-time = ends-within (length w) origin (sym said ∙ not-false fit passed)
+    ends-in-time = ends-within (length w) origin (sym said ∙ passed)
 
     -- `a` says the addresses, from a base that is taken from the origin, and `which` are the elements that are operated on
     pub done : (a : Addressing) → a.offsets ≡ ins.scalar → (a.base + origin % 2 ^ 32) % 2 ^ 32 ≡ base → a.stride ≡ stride → a.vb.0 ≡ ins.vb.0
@@ -107,7 +106,7 @@ module _ (b : Marked) (ins : Instruction) (base stride : ℕ) (w : List ℕ) (or
         → m ≡ moved_of b ins base stride w origin
     unfolding moved_of operated
     done a offsets begins strides vb short which chosen store quadword es eq vc ev m e =
-        let g : allowed (length w) origin ≡ true = sym said ∙ not-false fit passed in
+        let g : allowed (length w) origin ≡ true = sym said ∙ passed in
         let here : (i : ℕ) → operated ins b.state.control i ≡ bit which i =
         λ i. is-operated ins b.state.control.vlr b.state.control.vmr which chosen i b.state.control refl refl in
         let k = like b.state.control.vlr 64 short (bit which) (operated ins b.state.control) _ (address_in a b.state.elements)

@@ -164,10 +164,10 @@ fn passes(
     kept: u64,
     x: u64,
 ) -> Pass
-    requires left_len { (length left.old ≡ 64) × (n ≤ 16) × (get_or left.old at 0 ≡ kept) }
-    requires by_index { (p k : ℕ) → p < n → bit (get_or bound.now p 0) k ≡ true → k < p }
-    requires by_index_2 { (p : ℕ) → p < n → get_or groups.now p 0 ≡ group_of iotas bound.now p }
-    requires by_index_3 { (e : ℕ) → e < 64 → gone left.old e sentinel ≡ false }
+    requires sizes { (length left.old ≡ 64) × (n ≤ 16) × (get_or left.old at 0 ≡ kept) }
+    requires earlier { (p k : ℕ) → p < n → bit (get_or bound.now p 0) k ≡ true → k < p }
+    requires grouped { (p : ℕ) → p < n → get_or groups.now p 0 ≡ group_of iotas bound.now p }
+    requires stays { (e : ℕ) → e < 64 → gone left.old e sentinel ≡ false }
     ensures { EntryTried result.seen n iotas bound.now x left.old left.new × (get_or left.new result.at 0 ≡ result.kept) }
 {
     let p = (x / 64) as usize;
@@ -206,10 +206,10 @@ fn pair(
     list: &[u64],
     i: usize,
 ) -> usize
-    requires left_len { (length left.old ≡ 64) × (n ≤ 16) × (i + 1 < length list.now) }
-    requires by_index { (p k : ℕ) → p < n → bit (get_or bound.now p 0) k ≡ true → k < p }
-    requires by_index_2 { (p : ℕ) → p < n → get_or groups.now p 0 ≡ group_of iotas bound.now p }
-    requires by_index_3 { (e : ℕ) → e < 64 → gone left.old e sentinel ≡ false }
+    requires sizes { (length left.old ≡ 64) × (n ≤ 16) × (i + 1 < length list.now) }
+    requires earlier { (p k : ℕ) → p < n → bit (get_or bound.now p 0) k ≡ true → k < p }
+    requires grouped { (p : ℕ) → p < n → get_or groups.now p 0 ≡ group_of iotas bound.now p }
+    requires stays { (e : ℕ) → e < 64 → gone left.old e sentinel ≡ false }
     ensures { StretchTaken n iotas bound.now list.now left.old i left.new result }
 {
     let x = list[i];
@@ -237,10 +237,10 @@ fn ahead(
     list: &[u64],
     from: usize,
 ) -> usize
-    requires left_len { (length left.old ≡ 64) × (n ≤ 16) × (from ≤ length list.now) }
-    requires by_index { (p k : ℕ) → p < n → bit (get_or bound.now p 0) k ≡ true → k < p }
-    requires by_index_2 { (p : ℕ) → p < n → get_or groups.now p 0 ≡ group_of iotas bound.now p }
-    requires by_index_3 { (e : ℕ) → e < 64 → gone left.old e sentinel ≡ false }
+    requires sizes { (length left.old ≡ 64) × (n ≤ 16) × (from ≤ length list.now) }
+    requires earlier { (p k : ℕ) → p < n → bit (get_or bound.now p 0) k ≡ true → k < p }
+    requires grouped { (p : ℕ) → p < n → get_or groups.now p 0 ≡ group_of iotas bound.now p }
+    requires stays { (e : ℕ) → e < 64 → gone left.old e sentinel ≡ false }
     ensures { StretchTaken n iotas bound.now list.now left.old from left.new result }
 {
     if list.len() < 3 {
@@ -280,8 +280,8 @@ fn ended(left: &[u64; 64], n: usize, entries: usize) -> Verdict
 // The pass over the list. Where `ahead` stops (an IOTA, a bad entry, the last three), `comes` tests that entry by itself. No entry is read past the first bad
 // one.
 pub fn check(n: usize, vlr: u64, iotas: u64, bound: &[u64; 16], list: &[u64]) -> Verdict
-    requires n_bound { (n ≤ 16) × (vlr ≤ 64) }
-    requires by_index { (p k : ℕ) → p < n → bit (get_or bound.now p 0) k ≡ true → k < p }
+    requires sizes { (n ≤ 16) × (vlr ≤ 64) }
+    requires earlier { (p k : ℕ) → p < n → bit (get_or bound.now p 0) k ≡ true → k < p }
     ensures { result ≡ verdict_by n vlr iotas bound.now list.now }
 {
     let mut left = [18446744073709551615u64; 64];

@@ -17,8 +17,8 @@ pub fn straight(
     program: [Instruction; 16],
     scalars: &[u64],
 ) -> Progress
-    requires vlr_bound { (begun.control.vlr ≤ 64) × (length scalars.now ≤ 16) }
-    requires by_index { (k : ℕ) → k < length scalars.now → Runs (decoded_at program k) }
+    requires sizes { (begun.control.vlr ≤ 64) × (length scalars.now ≤ 16) }
+    requires runs { (k : ℕ) → k < length scalars.now → Runs (decoded_at program k) }
     ensures { under_way elements.new marks.new result ≡ through_by program scalars.now (length scalars.now) (under_way elements.old marks.old begun) }
 {
     let mut progress = begun;
@@ -46,8 +46,8 @@ fn enter(
     scalars: &[u64],
     x: u64,
 ) -> Progress
-    requires vlr_bound { (begun.control.vlr ≤ 64) × (length scalars.now ≤ 16) × (position x < length scalars.now) }
-    requires by_index { (k : ℕ) → k < length scalars.now → Runs (decoded_at program k) }
+    requires sizes { (begun.control.vlr ≤ 64) × (length scalars.now ≤ 16) × (position x < length scalars.now) }
+    requires runs { (k : ℕ) → k < length scalars.now → Runs (decoded_at program k) }
     ensures { under_way elements.new marks.new result ≡ act_by program scalars.now x (under_way elements.old marks.old begun) }
 {
     let p = (x / 64) as usize;
@@ -71,9 +71,9 @@ pub fn walk(
     scalars: &[u64],
     list: &[u64],
 ) -> Progress
-    requires vlr_bound { (begun.control.vlr ≤ 64) × (length scalars.now ≤ 16) }
-    requires by_index { (k : ℕ) → k < length scalars.now → Runs (decoded_at program k) }
-    requires by_index_2 { (i : ℕ) → i < length list.now → position (get_or list.now i 0) < length scalars.now }
+    requires sizes { (begun.control.vlr ≤ 64) × (length scalars.now ≤ 16) }
+    requires runs { (k : ℕ) → k < length scalars.now → Runs (decoded_at program k) }
+    requires positions { (i : ℕ) → i < length list.now → position (get_or list.now i 0) < length scalars.now }
     ensures { under_way elements.new marks.new result ≡ run (act_by program scalars.now) list.now (under_way elements.old marks.old begun) }
 {
     let mut progress = begun;

@@ -7,9 +7,9 @@ use Rattle.element.proofs.compared.Goals as goal
 
 pub returns-in-4 : goal.returns-in-4
 unfolding result_of work_at
-returns-in-4 c = rw c.in_default.keys1 c.compare.ensures
+returns-in-4 c = rw c.in-4.is c.compare.ensures
 
 pub returns-in_default : goal.returns-in_default
 unfolding result_of work_at
 returns-in_default c =
-    rw (only-left 13 compare_arms _ c.requires c.in_default.rest) c.compare-in_default.ensures
+    rw (only-left 13 compare_arms _ c.requires c.in_default.in_default-own.rest) c.compare-in_default.ensures

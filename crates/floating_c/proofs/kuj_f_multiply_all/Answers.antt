@@ -1,7 +1,6 @@
 -- `floating_c::kuj_f_multiply_all` meets its contract. The invariant: the first i products are made. Assumes nothing.
 use borrow.Author.Rules.{rules}
 use native.Mathlib.Omega.{arith}
-use Prim.Native.Nat.{◌-◌}
 use lib.ListN.{length-set}
 use Rattle.floating_c.proofs.Runs.{starts, turns, ends}
 use Rattle.floating_c.proofs.kuj_f_multiply_all.Goals as goal
@@ -17,7 +16,7 @@ loop-i-preserved c =
       omega arith,
       omega arith,
       simp length-set (search rules),
-      turns _ _ _ l.out l.i c.multiply-r.result (omega arith) c.multiply-r.ensures l.inv.5,
+      turns _ _ _ l.out l.i c.multiply-r.result (omega arith) c.multiply-r.ensures l.invariant.5,
     )
 
 pub returns : goal.returns

@@ -5,11 +5,11 @@ use Rattle.listing.proofs.Width.{width-twenty}
 use borrow.Author.Rules.{rules}
 use Rattle.listing.proofs.list_answer.Goals as goal
 
-returns : tie.Need-returns
-returns c = search (no_room, rules)
+pub returns-then-text-lt-ANSWER_ROOM : goal.returns-then-text-lt-ANSWER_ROOM
+returns-then-text-lt-ANSWER_ROOM c = search (no_room, rules)
 
-pub width-requires : goal.width-requires
-width-requires c = omega (arith, width-twenty _ _ c.width.ensures)
+pub number-at-requires : goal.number-at-requires
+number-at-requires c = omega (arith, width-twenty _ _ c.width.ensures)
 
 pub line-requires : goal.line-requires
 line-requires c =

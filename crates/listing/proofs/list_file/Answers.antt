@@ -7,11 +7,11 @@ use Rattle.listing.proofs.Width.{width-twenty}
 use borrow.Author.Rules.{rules}
 use Rattle.listing.proofs.list_file.Goals as goal
 
-returns : tie.Need-returns
-returns c = search (no_room, rules)
+pub returns-then-text-lt-LISTING_ROOM : goal.returns-then-text-lt-LISTING_ROOM
+returns-then-text-lt-LISTING_ROOM c = search (no_room, rules)
 
-pub shape_of-text-then-is_done : goal.shape_of-text-then-is_done
-shape_of-text-then-is_done c = search (loaded-listed, length-replicate {A = ℕ} 1024 0, rules)
+pub returns-then-is_done : goal.returns-then-is_done
+returns-then-is_done c = search (loaded-listed, length-replicate {A = ℕ} 1024 0, rules)
 
 pub line-requires : goal.line-requires
 line-requires c = omega (arith, width-twenty _ _ c.width.ensures)

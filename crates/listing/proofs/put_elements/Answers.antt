@@ -1,5 +1,5 @@
 -- `put_elements` meets its contract: after k turns the lines of the first k elements stand in the text. Assumes nothing.
-use Prim.Native.Nat.{◌≤◌, ◌-◌}
+use Prim.Native.Nat.{◌≤◌}
 use native.Mathlib.Omega.{arith}
 use lib.ListN.{length}
 use Rattle.listing.proofs.Printing.{starts, turns, ends}

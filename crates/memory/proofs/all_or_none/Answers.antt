@@ -10,19 +10,19 @@ all-requires c =
     let args = c.args in (
       search rules,
       lie-within args.store args.quadword args.vc.0 args.which _ (marked (state args.elements.now args.control) args.marks.now)
-          args.window-1.now _ _ c.tested-found.ensures c.enum_told-1.given.1,
+          args.window.now _ _ c.tested-found.ensures c.in-Fine.is,
     )
 
 pub returns-in-Fine : goal.returns-in-Fine
 returns-in-Fine c =
     let args = c.args in
     every args.store args.quadword args.vc.0 args.which _ (marked (state args.elements.now args.control) args.marks.now)
-    args.window-1.now _ _
-    c.tested-found.ensures c.enum_told-1.given.1 _ _ _ c.all.ensures
+    args.window.now _ _
+    c.tested-found.ensures c.in-Fine.is _ _ _ c.all.ensures
 
 pub returns-in-Bad : goal.returns-in-Bad
 returns-in-Bad c =
     let args = c.args in
     none args.store args.quadword args.vc.0 args.which _ (marked (state args.elements.now args.control) args.marks.now)
-    args.window-1.now _ _
-    c.tested-found.ensures _ _ _ c.refused.result c.found-1.given.1 c.bad_element.ensures c.refused.ensures
+    args.window.now _ _
+    c.tested-found.ensures _ _ _ c.refused.result c.in-Bad.is c.bad_element.ensures c.refused.ensures

@@ -1,5 +1,4 @@
 -- `ended` meets its contract: none of the elements so far waits for a position of the queue. Assumes nothing.
-use Prim.Native.Nat.{◌-◌}
 use native.Mathlib.Omega.{arith}
 use borrow.Author.Rules.{rules}
 use Rattle.order.proofs.Marking.{ones-fit, none-waits, one-waits, no-more-waits, all_come}

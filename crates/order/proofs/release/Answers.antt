@@ -1,6 +1,5 @@
 -- `release` meets its contract: the loop takes the position out of each set. Assumes nothing.
 use mathlib.Core.Path.{◌∙◌}
-use Prim.Native.Nat.{◌-◌}
 use native.Mathlib.Omega.{arith}
 use borrow.Author.Rules.{rules}
 use Rattle.order.proofs.Sweeping.{swept_none, leaves-each}

@@ -1,6 +1,5 @@
 -- `somewhere` meets its contract: after e turns it has what the first e elements wait for. Assumes nothing.
 use mathlib.Core.Path.{◌≡◌, refl, ap, ◌∙◌}
-use Prim.Native.Nat.{◌-◌}
 use native.Mathlib.Omega.{arith}
 use borrow.Author.Rules.{rules}
 use Rattle.order.specs.SetsWorking.{somewhere}

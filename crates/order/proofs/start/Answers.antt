@@ -1,6 +1,5 @@
 -- `start` meets its contract: the loop writes the sets of the elements from VLR on. Assumes nothing.
 use mathlib.Core.Path.{refl}
-use Prim.Native.Nat.{◌-◌}
 use borrow.Author.Rules.{rules}
 use Rattle.order.proofs.Sweeping.{swept_none, swept-more, starts}
 use Rattle.order.proofs.start.Goals as goal

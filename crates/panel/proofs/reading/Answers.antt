@@ -3,6 +3,8 @@ use Prim.Native.Nat.{◌<◌}
 use native.Mathlib.Omega.{arith}
 use Rattle.panel.proofs.Showing.{refused, no_field, bounds, read}
 use borrow.Author.Rules.{rules}
+use mathlib.Core.Bool.{not}
+use mathlib.Core.Path.{ap}
 use Rattle.panel.proofs.reading.Goals as goal
 use Rattle.panel.proofs.reading.Goals.{Else-not-is_field}
 
@@ -16,7 +18,7 @@ returns-then-not-is_field c = search (no_field, rules)
 inside : (c : Else-not-is_field)
     → (c.args.register.0 < 16) × (c.args.element.0 < 64) × (c.args.kind < 2)
 inside c =
-    bounds c.args.register.0 c.args.element.0 c.args.kind _ c.is_field.ensures c.if-not-is_field.false
+    bounds c.args.register.0 c.args.element.0 c.args.kind _ c.is_field.ensures (ap not c.if-not-is_field.false)
 
 pub place-at-requires : goal.place-at-requires
 place-at-requires c = ((inside (goal.at.place-at-requires c).Else-not-is_field).0, (inside (goal.at.place-at-requires c).Else-not-is_field).1)

@@ -11,9 +11,11 @@ returns-then-not-is_done c =
 pub straight-progress-requires : goal.straight-progress-requires
 straight-progress-requires c =
     let fine = sym c.is_done.ensures ∙ c.if-not-is_done.false in
+    let all =
     through-meets _ c.args.elements.now c.args.marks.now _ _ c.accept-accepted.ensures.answered fine c.accept-accepted.result.program
     (c.accept-accepted.ensures.decoded fine) _
-    c.begin.ensures
+    c.begin.ensures in
+    record { sizes = all.0; runs = all.1 }
 
 pub returns : goal.returns
 returns c =

@@ -1,5 +1,4 @@
 -- `fill` meets its contract: after k turns the first k elements are the file's. Assumes nothing.
-use Prim.Native.Nat.{◌-◌}
 use borrow.Author.Rules.{rules}
 use Rattle.saved.proofs.Loading.{fill-starts, fill-turns, fill-ends}
 use Rattle.saved.proofs.fill.Goals as goal

@@ -1,5 +1,4 @@
 -- `put_records` meets its contract: after k turns the first k records stand in the file. Assumes nothing.
-use Prim.Native.Nat.{◌-◌}
 use native.Mathlib.Omega.{arith}
 use borrow.Author.Rules.{rules}
 use Rattle.saved.proofs.Saving.{starts, turns, kept, ends}

@@ -16,7 +16,7 @@ returns-then-e-le-F_UNIT c =
 pub returns : goal.returns
 returns c =
     let a = c.args in
-    source-above F a.exc a.word a.halves (search rules) _ _ _ _ _ c.exponent_of-e.ensures c.if-e-eq0.false c.wide_significand_of-m.ensures
+    source-above F a.exc a.word a.halves (search rules) _ _ _ _ _ c.exponent_of-e.ensures c.if-e-eq0.false c.significand_of-m.ensures
     c.sign_of-s.ensures
-    (record-made a.exc _ c.sign_of-s.result c.whole_above-n.result _ _ c.is_IsWide.ensures c.longword_of-2.ensures c.chosen.ensures)
+    (record-made a.exc _ c.sign_of-s.result c.whole_above-n.result _ _ c.is_wide.ensures c.longword_of-2.ensures c.chosen.ensures)
     (search rules) c.whole_above-n.ensures

@@ -21,5 +21,5 @@ returns c =
     let n = none-zero F a.a a.b (sym fields ∙ c.if-ea-eb.false) in
     let placed =
     quotient-placed F a.a a.b _ _ _ _ _ _ _ (lit< tt) (search rules) c.sign_of_product-s.ensures.0 c.exponent_of-ea.ensures n.0
-    c.exponent_of-eb.ensures n.1 c.wide_significand_of-ma.ensures c.wide_significand_of-mb.ensures in
+    c.exponent_of-eb.ensures n.1 c.significand_of-ma.ensures c.significand_of-mb.ensures in
     c.of_one_more-r.ensures ∙ ap (answered a.exc) (placed x.0 x.1)

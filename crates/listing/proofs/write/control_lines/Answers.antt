@@ -19,11 +19,17 @@ returns c =
     c.width.ensures c.width-2.ensures
     c.line-a.ensures c.line-b.ensures c.line-c.ensures c.line-d.ensures c.line.ensures
 
+pub line-a-requires : goal.line-a-requires
+line-a-requires c = omega (arith, narrow (goal.at.line-a-requires c).After-width)
+
 pub line-b-requires : goal.line-b-requires
-line-b-requires c = omega (arith, narrow (goal.at.line-b-requires c).After-width, narrow2 (goal.at.line-b-requires c).After-width-2)
+line-b-requires c = omega (arith, narrow (goal.at.line-b-requires c).After-width)
 
 pub line-c-requires : goal.line-c-requires
 line-c-requires c = omega (arith, narrow (goal.at.line-c-requires c).After-width, narrow2 (goal.at.line-c-requires c).After-width-2)
+
+pub line-d-requires : goal.line-d-requires
+line-d-requires c = omega (arith, narrow (goal.at.line-d-requires c).After-width, narrow2 (goal.at.line-d-requires c).After-width-2)
 
 pub line-requires : goal.line-requires
 line-requires c = omega (arith, narrow (goal.at.line-requires c).After-width, narrow2 (goal.at.line-requires c).After-width-2)

@@ -1,6 +1,5 @@
 -- `copy` meets its contract: after i turns the first i bytes stand in the text. Assumes nothing.
 use mathlib.Core.Path.{refl}
-use Prim.Native.Nat.{◌-◌}
 use native.Mathlib.Omega.{arith}
 use lib.ListN.{length-set}
 use lib.Seq.{paste-zero}

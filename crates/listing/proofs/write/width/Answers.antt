@@ -1,5 +1,4 @@
 -- `width` meets its contract: the digits that were counted, and those that the rest takes. Assumes nothing.
-use Prim.Native.Nat.{◌-◌}
 use Rattle.listing.proofs.Width.{counting-starts, counting-turns, counting-ends, counting-full}
 use borrow.Author.Rules.{rules}
 use Rattle.listing.proofs.write.width.Goals as goal

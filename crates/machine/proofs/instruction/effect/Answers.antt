@@ -7,7 +7,7 @@ use Rattle.machine.proofs.instruction.effect.Goals as goal
 pub over-requires : goal.over-requires
 over-requires c =
     let mask = sym c.writes_mask.ensures ∙ c.if-writes_mask.true in
-    record { below = (c.requires.below.0, search rules, mask); by_index = c.requires.by_index }
+    record { below = (c.requires.below.0, search rules, mask); within = c.requires.within }
 
 pub returns-then-writes_mask : goal.returns-then-writes_mask
 returns-then-writes_mask c = λ k g e f h. c.over.ensures k g f h
@@ -30,7 +30,7 @@ returns c =
     let no-mask = sym c.writes_mask.ensures ∙ c.if-writes_mask.false in
     let no-iota = sym c.in_one_step.ensures ∙ c.if-in_one_step.false in
     let a = c.args in
-    λ d g c f h.
+    λ d g r f h.
     valued a.instruction a.scalar a.which _ d g (rw f (search rules)) (search rules) no-mask no-iota _ c.over-types.result c.noted.result
     (rw (f, ← c.matched-mask.ensures) c.over-types.ensures)
     (rw (f, h) c.noted.ensures)

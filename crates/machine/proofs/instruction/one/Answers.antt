@@ -25,10 +25,10 @@ pub returns : goal.returns
 returns c =
     let no-mask = sym c.writes_mask.ensures ∙ c.if-writes_mask.false in
     let i = c.args.instruction in
-    λ d g c f.
-    valued i c.args.scalar c.with_bit-which.result _ d g (rw c (search rules)) (search rules) no-mask c.requires.3 _ c.some-types.result
+    λ d g r f.
+    valued i c.args.scalar c.with_bit-which.result _ d g (rw r (search rules)) (search rules) no-mask c.requires.3 _ c.some-types.result
     c.noted.result
-    (rw (c, ← c.matched.ensures) c.some-types.ensures)
-    (rw (c, f) c.noted.ensures)
+    (rw (r, ← c.matched.ensures) c.some-types.ensures)
+    (rw (r, f) c.noted.ensures)
     ∙ ap (λ (x : ℕ). done_for x i c.args.scalar (run c.args.elements.now d g)) c.with_bit-which.ensures
     ∙ one-done _ _ _ _ c.requires.2 c.requires.3

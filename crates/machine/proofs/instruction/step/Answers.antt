@@ -7,7 +7,7 @@ use Rattle.machine.proofs.instruction.step.Goals as goal
 
 pub effect-done-requires : goal.effect-done-requires
 effect-done-requires c =
-    record { below = (c.requires.0, c.requires.1, c.requires.2); by_index = λ j e. absurd (true-not-false (sym (bit-none j) ∙ e)) }
+    record { below = (c.requires.0, c.requires.1, c.requires.2); within = λ j e. absurd (true-not-false (sym (bit-none j) ∙ e)) }
 
 pub returns-then-in_one_step : goal.returns-then-in_one_step
 returns-then-in_one_step c =

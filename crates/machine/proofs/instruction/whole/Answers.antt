@@ -5,7 +5,7 @@ use Rattle.machine.proofs.instruction.whole.Goals as goal
 
 pub effect-done-requires : goal.effect-done-requires
 effect-done-requires c =
-    record { below = (c.requires.0, c.requires.1, c.requires.2); by_index = below _ _ _ c.operated-which.ensures }
+    record { below = (c.requires.0, c.requires.1, c.requires.2); within = below _ _ _ c.operated-which.ensures }
 
 pub returns : goal.returns
 returns c =

@@ -6,7 +6,7 @@ use Rattle.machine.proofs.lanes.conversions.Goals as goal
 
 pub returns-in_default : goal.returns-in_default
 returns-in_default c =
-    c.converts-in_default.ensures ∙ others _ _ _ _ c.in_default.rest.0.1 c.in_default.rest.1
+    c.converts-in_default.ensures ∙ others _ _ _ _ c.in_default.in_default-own.rest.0.1 c.in_default.in_default-own.rest.1
 
 pub returns-in-5 : goal.returns-in-5
 returns-in-5 c = search (converts-as, rules)

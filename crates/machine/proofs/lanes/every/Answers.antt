@@ -3,7 +3,6 @@ use Rattle.machine.proofs.Recording.{gated-all}
 use Rattle.machine.proofs.LaneLoops.{short-takes, unhalved, its-bit, halved}
 use Rattle.numbers.proofs.Rising.{turns, ends}
 use Rattle.numbers.specs.Rising.{rising}
-use Prim.Native.Nat.{◌-◌}
 use borrow.Author.Rules.{rules}
 use Rattle.machine.proofs.lanes.every.Goals as goal
 

@@ -3,14 +3,13 @@ use Rattle.machine.proofs.LaneLoops.{lands, takes}
 use Rattle.machine.specs.Working.{plainly}
 use Rattle.element.specs.Working.{sum_work}
 use mathlib.Core.Bool.{true, false}
-use mathlib.Core.Logic.{⊎_elim}
 use mathlib.Core.Path.{refl, sym, ◌∙◌}
 use Prim.Native.Nat.{◌<◌}
 use native.Mathlib.Omega.{arith}
 use borrow.Author.Rules.{rules}
 use Rattle.numbers.proofs.SetBits.{starts-walk, ends-walk, index_below, less-left, turns-walk}
 use Rattle.machine.proofs.lanes.scalar_sums.Goals as goal
-use Rattle.machine.proofs.lanes.scalar_sums.Goals.{After-lowest}
+use Rattle.machine.proofs.lanes.scalar_sums.Goals.{After-lowest, then-is_special, else-is_special}
 
 pub loop-left-init : goal.loop-left-init
 loop-left-init c = search (starts-walk, rules)
@@ -40,7 +39,10 @@ loop-left-preserved c =
     turns-walk _ _ _ _ _ _ v (omega arith) v.small _ c.lowest.ensures _ c.without_lowest-left.ensures _
     (takes w true a.instruction a.x _ _ _ _ refl
     (lands w a.instruction _ _ _ _ _ _ c.if-is_special.o c.vb_of-b.ensures c.vc_of-c.ensures
-    (⊎_elim (λ w. w.2 ∙ w.1.ensures _) (λ w. w.2 ∙ w.1.ensures) c.if-is_special.came) c.land-types.ensures))
+    (elim c.if-is_special.branch [
+      | then-is_special w ↦ w.o-is ∙ w.special_sum_or_difference-o.ensures _
+      | else-is_special w ↦ w.o-is ∙ w.common_sum_or_difference-o.ensures
+    ]) c.land-types.ensures))
 
 pub returns : goal.returns
 returns c = search (ends-walk, rules)

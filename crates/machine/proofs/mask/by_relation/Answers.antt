@@ -2,19 +2,19 @@
 use Rattle.machine.proofs.mask.by_relation.Goals as goal
 
 pub returns-in-0 : goal.returns-in-0
-returns-in-0 c = rw c.in_default.keys1 c.every.ensures
+returns-in-0 c = rw c.in-0.is c.every.ensures
 
 pub returns-in-1 : goal.returns-in-1
-returns-in-1 c = rw c.in_default.keys2 c.every-in-1.ensures
+returns-in-1 c = rw c.in-1.is c.every-in-1.ensures
 
 pub returns-in-2 : goal.returns-in-2
-returns-in-2 c = rw c.in_default.keys3 c.every-in-2.ensures
+returns-in-2 c = rw c.in-2.is c.every-in-2.ensures
 
 pub returns-in-4 : goal.returns-in-4
-returns-in-4 c = rw c.in_default.keys4 c.every-in-4.ensures
+returns-in-4 c = rw c.in-4.is c.every-in-4.ensures
 
 pub returns-in-5 : goal.returns-in-5
-returns-in-5 c = rw c.in_default.keys5 c.every-in-5.ensures
+returns-in-5 c = rw c.in-5.is c.every-in-5.ensures
 
 pub returns-in-6 : goal.returns-in-6
-returns-in-6 c = rw c.in_default.keys6 c.every-in-6.ensures
+returns-in-6 c = rw c.in-6.is c.every-in-6.ensures

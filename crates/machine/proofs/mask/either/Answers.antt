@@ -8,7 +8,7 @@ use Rattle.machine.proofs.mask.either.Goals as goal
 pub returns-in-4 : goal.returns-in-4
 returns-in-4 c =
     let e = c.longwords.ensures in
-    rw c.in_default.keys1 (odd-below _ _ _ e.0, odd-below _ _ _ e.1)
+    record { found = rw c.in-4.is (odd-below _ _ _ e.found); refused = rw c.in-4.is (odd-below _ _ _ e.refused) }
 
 pub returns-in_default : goal.returns-in_default
 returns-in_default c =
@@ -17,7 +17,8 @@ returns-in_default c =
     let l = a.elements.now in
     let e = c.every.ensures in
     let o = c.opposed.ensures in
-    rw (only-left 13 compare_arms _ c.requires.0 c.in_default.rest, o.1) (
-      opposite-found a.relation i.scalar i a.x l a.n _ _ _ e.0 e.1 (search rules) o.0,
-      opposite-refused a.relation i.scalar i a.x l a.n _ e.1,
-    )
+    let left = only-left 13 compare_arms _ c.requires.0 c.in_default.in_default-own.rest in
+    record {
+      found = rw left (opposite-found a.relation i.scalar i a.x l a.n _ _ _ e.found e.refused (search rules) o.found);
+      refused = rw (left, o.refused) (opposite-refused a.relation i.scalar i a.x l a.n _ e.refused);
+    }

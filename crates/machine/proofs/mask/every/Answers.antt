@@ -1,6 +1,6 @@
 -- `every` meets its contract: the elements from i on were compared, and their bits stand in order. Assumes nothing.
 use Rattle.machine.proofs.Compares.{nothing, room, one_more, done}
-use Prim.Native.Nat.{◌<◌, ◌-◌, ◌^◌}
+use Prim.Native.Nat.{◌<◌, ◌^◌}
 use mathlib.Core.Path.{refl}
 use native.Mathlib.Omega.{arith}
 use borrow.Author.Rules.{rules}

@@ -16,7 +16,7 @@ returns-then-refused-eq0 c =
     let a = c.args in
     λ d g e f.
     compared a.instruction a.x a.which _ d g small c.requires.below.2 a.n c.either-m.result.found c.either-m.result.refused
-    (record { vmr = _; vcr = _; notes = _; wrote = 0 }) c.requires.below.1 c.requires.by_index c.either-m.ensures.found c.either-m.ensures.refused
+    (record { vmr = _; vcr = _; notes = _; wrote = 0 }) c.requires.below.1 c.requires.within c.either-m.ensures.found c.either-m.ensures.refused
     (λ k. rw e (c.replaced.ensures k)) (sym f) (rw (eq-eqb _ _ c.if-refused-eq0.true)) refl
 
 pub returns-else-refused-eq0 : goal.returns-else-refused-eq0
@@ -25,5 +25,5 @@ returns-else-refused-eq0 c =
     let a = c.args in
     λ d g e f.
     compared a.instruction a.x a.which _ d g small c.requires.below.2 a.n c.either-m.result.found c.either-m.result.refused
-    (record { vmr = _; vcr = _; notes = _; wrote = 0 }) c.requires.below.1 c.requires.by_index c.either-m.ensures.found c.either-m.ensures.refused
+    (record { vmr = _; vcr = _; notes = _; wrote = 0 }) c.requires.below.1 c.requires.within c.either-m.ensures.found c.either-m.ensures.refused
     (λ k. rw e (c.replaced.ensures k)) (sym f) (rw (ne_eqb _ _ c.if-refused-eq0.false)) refl

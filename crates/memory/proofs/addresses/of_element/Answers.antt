@@ -7,4 +7,4 @@ returns-then-addressing c = rw c.if-addressing.true c.by_offset.ensures
 
 pub returns : goal.returns
 returns c =
-    rw c.if-addressing.false (strides-to _ _ _ _ _ c.multiple.ensures c.wrapping_add_u32.ensures)
+    rw c.if-addressing.false (strides-to _ _ _ _ _ c.multiple.ensures c.wrapping_add_u32.ensures.value)

@@ -21,7 +21,8 @@ bounds-addresses-i c = index (goal.at.bounds-addresses-i c).After-lowest-i
 
 pub load_one-requires : goal.load_one-requires
 load_one-requires c =
-    (search rules, index (goal.at.load_one-requires c).After-lowest-i, c.requires.1 _ (index (goal.at.load_one-requires c).After-lowest-i) (one c.loop-left.invariant (omega arith) c.lowest-i.ensures))
+    let h = index (goal.at.load_one-requires c).After-lowest-i in
+    (search rules, h, c.requires.1 _ h (one c.loop-left.invariant (omega arith) c.lowest-i.ensures))
 
 pub loop-left-smaller : goal.loop-left-smaller
 loop-left-smaller c =

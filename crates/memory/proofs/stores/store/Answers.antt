@@ -39,12 +39,11 @@ loop-left-smaller c =
 
 pub loop-left-preserved : goal.loop-left-preserved
 unfolding store_at
-loop-left-preserved c =
-    (
-      goes_on c.loop-left.invariant.0 (omega arith) c.lowest-i.ensures c.without_lowest-left.ensures _
-          (rw c.place.ensures c c.store_one.ensures),
-      search rules,
-    )
+loop-left-preserved c = (
+  goes_on c.loop-left.invariant.0 (omega arith) c.lowest-i.ensures c.without_lowest-left.ensures _
+      (rw c.place.ensures at c.store_one.ensures),
+  search rules,
+)
 
 pub returns : goal.returns
 returns c = ends-walk _ _ _ _ _ _ c.loop-left.invariant.0 c.loop-left-test.false ∙ stores-ones _ _ _ _ _ _ _

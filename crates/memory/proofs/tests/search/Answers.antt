@@ -2,7 +2,6 @@
 use Rattle.std.proofs.Common.{◌<◌, refl, arith, length-set, rules}
 use Rattle.numbers.proofs.SetBits.{starts-walk}
 use Rattle.memory.specs.declared.Test.TheVariants as test
-use Rattle.memory.specs.declared.Search.TheVariants as search
 use Rattle.memory.proofs.Filling.{none_filled, fills_one}
 use Rattle.memory.proofs.Walking.{below, fewer, goes_on}
 use Rattle.memory.proofs.Testing.{turn, no_more, bad}
@@ -29,7 +28,7 @@ pub returns-in-Bad : goal.returns-in-Bad
 returns-in-Bad c =
     bad _ _ _ _ _ _
     (goes_on c.loop-left.invariant.0 (omega arith) c.lowest-i.ensures refl _
-    (turn _ _ _ _ _ _ _ c.of_element-address.ensures c.one-test.ensures c.test-1.given.1))
+    (turn _ _ _ _ _ _ _ c.of_element-address.ensures c.one-test.ensures c.in-Bad.is))
 
 pub loop-left-smaller : goal.loop-left-smaller
 loop-left-smaller c =
@@ -39,7 +38,7 @@ pub loop-left-preserved : goal.loop-left-preserved
 loop-left-preserved c =
     let h = index (goal.at.loop-left-preserved c).After-lowest-i in (
       goes_on c.loop-left.invariant.0 (omega arith) c.lowest-i.ensures c.without_lowest-left.ensures _
-          (turn _ _ _ _ _ _ test.Fine c.of_element-address.ensures c.one-test.ensures c.enum_told-1.given.1),
+          (turn _ _ _ _ _ _ test.Fine c.of_element-address.ensures c.one-test.ensures c.in-Fine.is),
       simp length-set (search rules),
       fills_one _ _ _ _ _ c.lowest-i.ensures c.without_lowest-left.ensures c.loop-left.addresses c.of_element-address.result (omega arith)
           c.loop-left.invariant.2 c.of_element-address.ensures,

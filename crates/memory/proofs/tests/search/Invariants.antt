@@ -1,7 +1,6 @@
 -- `search` meets its contract: none that was looked at is bad, and its address is kept. Assumes nothing.
 use Rattle.std.proofs.Common.{◌≡◌, length}
 use Rattle.numbers.proofs.SetBits.{Walk}
-use Rattle.memory.specs.declared.Test.TheVariants as test
 use Rattle.memory.specs.declared.Search.TheVariants as search
 use Rattle.memory.specs.Works.{size_of}
 use Rattle.memory.specs.Working.{address_in, tests_at}

@@ -6,20 +6,20 @@ use Rattle.opcodes.proofs.control_word.refused.Goals as goal
 
 pub returns-in-1 : goal.returns-in-1
 returns-in-1 c =
-    c.relation_refused.ensures ∙ by_row _ 1 (sym c.in_default.keys1 ∙ c.word_test-test.ensures) (search rules)
+    c.relation_refused.ensures ∙ by_row _ 1 (sym c.in-1.is ∙ c.word_test-test.ensures) (search rules)
 
 pub returns-in-2 : goal.returns-in-2
 returns-in-2 c =
-    c.lone_relation_refused.ensures ∙ by_row _ 2 (sym c.in_default.keys2 ∙ c.word_test-test.ensures) (search rules)
+    c.lone_relation_refused.ensures ∙ by_row _ 2 (sym c.in-2.is ∙ c.word_test-test.ensures) (search rules)
 
 pub returns-in-3 : goal.returns-in-3
 returns-in-3 c =
-    c.conversion_refused.ensures ∙ by_row _ 3 (sym c.in_default.keys3 ∙ c.word_test-test.ensures) (search rules)
+    c.conversion_refused.ensures ∙ by_row _ 3 (sym c.in-3.is ∙ c.word_test-test.ensures) (search rules)
 
 pub returns-in-4 : goal.returns-in-4
 returns-in-4 c =
-    c.gather_refused.ensures ∙ by_row _ 4 (sym c.in_default.keys4 ∙ c.word_test-test.ensures) (search rules)
+    c.gather_refused.ensures ∙ by_row _ 4 (sym c.in-4.is ∙ c.word_test-test.ensures) (search rules)
 
 pub returns-in_default : goal.returns-in_default
 returns-in_default c =
-    sym (no_test c.args.i c.word_test-test.result c.in_default.rest) ∙ by_row c.args.i _ c.word_test-test.ensures (search rules)
+    sym (no_test c.args.i c.word_test-test.result c.in_default.in_default-own.rest) ∙ by_row c.args.i _ c.word_test-test.ensures (search rules)

@@ -36,4 +36,4 @@ returns-in_default c =
     sym
     (eqb-true _ 0
     (in-last (18 ∷ 17 ∷ 14 ∷ 13 ∷ 4 ∷ []) (λ n. eqb (word_test (row_at n).holds (is_load (row_at n).moves)) 0) tt c.args.work (search rules)
-    c.in_default.rest))
+    c.in_default.in_default-own.rest))

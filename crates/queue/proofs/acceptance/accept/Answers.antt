@@ -1,7 +1,6 @@
 -- `accept` meets its contract: the loop passes the positions that decoding accepts, and keeps the instruction of each. Assumes nothing.
 use mathlib.Core.Path.{◌≡◌, refl, sym, ◌∙◌}
 use mathlib.Core.Bool.{true}
-use Prim.Native.Nat.{◌-◌}
 use borrow.Author.Rules.{rules}
 use Rattle.state.specs.Answer.{is_done}
 use Rattle.queue.proofs.Calls.{stands-bounded}
@@ -24,11 +23,11 @@ loop-k-init c =
 pub returns-in-Refused : goal.returns-in-Refused
 returns-in-Refused c =
     accepts-stops _ _ c.stand-standing.result c.stand-standing.ensures (passes (goal.at.returns-in-Refused c).Else-not-is_done) _ c.loop-k.k c.loop-k.invariant _ (search rules)
-    (sym c.decode-decoded.ensures ∙ c.decoded-1.given.1)
+    (sym c.decode-decoded.ensures ∙ c.in-Refused.is)
 
 pub loop-k-preserved : goal.loop-k-preserved
 loop-k-preserved c =
-    decoded-more _ _ c.loop-k.k c.loop-k.invariant (search rules) _ (sym c.decode-decoded.ensures ∙ c.decoded-in-Accepted-1.given.1)
+    decoded-more _ _ c.loop-k.k c.loop-k.invariant (search rules) _ (sym c.decode-decoded.ensures ∙ c.in-Accepted.is)
 
 pub returns : goal.returns
 returns c =

@@ -1,5 +1,4 @@
 -- `straight` meets its contract: after k turns the first k instructions are done. Assumes nothing.
-use Prim.Native.Nat.{◌-◌}
 use borrow.Author.Rules.{rules}
 use Rattle.numbers.proofs.Rising.{starts, turns, ends}
 use Rattle.queue.proofs.Through.{whole-short}
@@ -9,14 +8,14 @@ pub loop-k-init : goal.loop-k-init
 loop-k-init c = (search rules, search rules, starts _ _)
 
 pub offset_bounds-program-k : goal.offset_bounds-program-k
-offset_bounds-program-k c = let few = c.requires.vlr_bound.1 in search rules
+offset_bounds-program-k c = let few = c.requires.sizes.1 in search rules
 
 pub bounds-program-k : goal.bounds-program-k
-bounds-program-k c = let few = c.requires.vlr_bound.1 in search rules
+bounds-program-k c = let few = c.requires.sizes.1 in search rules
 
 pub whole-progress-requires : goal.whole-progress-requires
 whole-progress-requires c =
-    let b = c.requires.by_index c.loop-k.k c.loop-k-test.true in (b.below, b.work, c.loop-k.invariant.1)
+    let b = c.requires.runs c.loop-k.k c.loop-k-test.true in (b.below, b.work, c.loop-k.invariant.1)
 
 pub loop-k-preserved : goal.loop-k-preserved
 loop-k-preserved c =

@@ -1,6 +1,5 @@
 -- `walk` meets its contract: what is left of the list, run from here, gives what the whole list gives. Assumes nothing.
 use mathlib.Core.Path.{refl, ap, ◌∙◌}
-use Prim.Native.Nat.{◌-◌}
 use Rattle.order.proofs.RunLoop.{run-start, run-one, run_end}
 use Rattle.queue.proofs.Through.{act-vlr, vlr_of}
 use Rattle.queue.proofs.runs.walk.Goals as goal
@@ -10,7 +9,7 @@ loop-i-init c = (refl, run-start _ _ _)
 
 pub enter-progress-requires : goal.enter-progress-requires
 enter-progress-requires c =
-    record { vlr_bound = (rw c.loop-i.invariant.0 c.requires.vlr_bound.0, c.requires.vlr_bound.1, c.requires.by_index_2 c.loop-i.i c.loop-i-test.true); by_index = c.requires.by_index }
+    record { sizes = (rw c.loop-i.invariant.0 c.requires.sizes.0, c.requires.sizes.1, c.requires.positions c.loop-i.i c.loop-i-test.true); runs = c.requires.runs }
 
 pub loop-i-preserved : goal.loop-i-preserved
 loop-i-preserved c =

@@ -1,5 +1,4 @@
 -- `all_unfilled` meets its contract: what was found of the k records passed. Assumes nothing.
-use Prim.Native.Nat.{◌-◌}
 use Rattle.running.proofs.Parts.{unfilled-starts, unfilled-turns, unfilled-ends}
 use borrow.Author.Rules.{rules}
 use Rattle.running.proofs.records.all_unfilled.Goals as goal
