@@ -1,5 +1,5 @@
-# Sourced. Builds what is not up to date: the programs (target/bin) and the archives for C (target/staticlib). $home is the clone.
-# What is done goes to standard error, crate by crate. One build at a time: others wait.
+# Sourced. Builds what is not up to date: the programs (target/bin) and the archives for C (target/staticlib), each a copy of what rt makes
+# in the crate's folder out. $home is the clone. What is done goes to standard error, crate by crate. One build at a time: others wait.
 # KUJAWIAN_ARCHIVES may name a folder with archives that are to be taken as they are.
 . "$home/lib/say.sh"
 
@@ -14,30 +14,32 @@ plan() {
             print level[n] ":" n
         }
         { sub(/#.*/, "") }
-        split($0, part, ":") == 2 { gsub(/[ \t]/, "", part[1]); needs[part[1]] = part[2] }
+        split($0, part, ":") == 2 && split(part[1], word, " ") { needs[word[1]] = part[2] }
         END { if (wanted in needs) visit(wanted) }' "$home/crates.txt" | sort -s -t: -n -k1,1
 }
 
-# up_to_date NAME MADE MARK...: whether MADE is there, and for one of the marks nothing that NAME is built from is newer.
+# crate_of NAME: the crate that NAME is built from. The library that is linked is a crate apart from the one that does the work.
+crate_of() {
+    case $1 in
+    kujawian) echo kujawian_c ;;
+    *) echo "$1" ;;
+    esac
+}
+
+# up_to_date NAME MADE MARK: whether MADE is there, and nothing that NAME is built from is newer than MARK.
 up_to_date() {
-    ut_made=$2
-    [ -f "$ut_made" ] && [ -r "$ut_made" ] || return 1
-    ut_crates=$(plan "$1" | sed 's/^[0-9]*://')
-    shift 2
-    for ut_mark in "$@"; do
-        [ -f "$ut_mark" ] || continue
-        ut_newer=$(
-            cd "$home" || exit
-            find crates.txt -newer "$ut_mark"
-            for ut_crate in $ut_crates; do
-                for ut_part in src specs proofs stdin stdout args data; do
-                    [ ! -e "crates/$ut_crate/$ut_part" ] || find "crates/$ut_crate/$ut_part" -newer "$ut_mark"
-                done
+    [ -f "$2" ] && [ -r "$2" ] && [ -f "$3" ] || return 1
+    ut_crates=$(plan "$(crate_of "$1")" | sed 's/^[0-9]*://')
+    ut_newer=$(
+        cd "$home" || exit
+        find crates.txt -newer "$3"
+        for ut_crate in $ut_crates; do
+            for ut_part in src specs proofs; do
+                [ ! -e "crates/$ut_crate/$ut_part" ] || find "crates/$ut_crate/$ut_part" -newer "$3"
             done
-        ) || continue
-        [ -n "$ut_newer" ] || return 0
-    done
-    return 1
+        done
+    ) || return 1
+    [ -z "$ut_newer" ]
 }
 
 # lock, unlock: one build at a time in this clone.
@@ -69,49 +71,36 @@ unlock() {
     held=
 }
 
-# prove KIND NAME: rt check, as many crates of a level at a time as rt itself takes, so that what is being proved can be said before it is.
-# The last one is NAME, alone.
+# prove KIND NAME: builds the crate that NAME is, the crates below it first, each by a call of its own, so that what is being proved can be said
+# before it is. A program is run once when it is built, on no input; what it prints is not looked at.
 prove() {
-    pv_jobs=${RT_JOBS:-$(nproc 2>/dev/null || echo 1)}
-    [ "$pv_jobs" -le 4 ] || [ -n "${RT_JOBS:-}" ] || pv_jobs=4
-    pv_plan=$(plan "$2")
-    pv_all=$(($(printf '%s\n' "$pv_plan" | wc -l)))
-    pv_at=0 pv_level= pv_now=
-    for pv_item in $pv_plan; do
-        # shellcheck disable=SC2086
-        if [ "${pv_item%%:*}" != "$pv_level" ] || [ "$(set -- $pv_now && echo $#)" -ge "$pv_jobs" ]; then
-            call_rt check $pv_now || return 1
-            pv_now=
-        fi
-        pv_level=${pv_item%%:*}
+    pv_crates=$(plan "$(crate_of "$2")" | sed 's/^[0-9]*://')
+    pv_all=$(($(printf '%s\n' "$pv_crates" | wc -l)))
+    pv_at=0
+    for pv_crate in $pv_crates; do
         pv_at=$((pv_at + 1))
-        pv_now="$pv_now ${pv_item#*:}"
-        complain "proving $pv_at of $pv_all: ${pv_item#*:}"
+        complain "proving $pv_at of $pv_all: $pv_crate"
+        pv_verb=lib
+        [ "$1" != program ] || [ "$pv_crate" != "$2" ] || pv_verb=run
+        (cd "$home/crates/$pv_crate" && rt "$pv_verb") </dev/null >"$home/target/build.log" 2>&1 9>&- || return 1
     done
-    case $1 in
-    program) call_rt check "$2" ;;
-    archive) call_rt staticlib "$2" ;;
-    esac
-}
-call_rt() {
-    [ $# -gt 1 ] || return 0
-    (cd "$home" && rt "$@") </dev/null >"$home/target/build.log" 2>&1 9>&-
 }
 
 # build KIND NAME: KIND is program or archive. Returns once target/bin/NAME or target/staticlib/libNAME.a is up to date, or ends.
 build() {
+    bd_crate=$(crate_of "$2")
     case $1 in
-    program) bd_what="the $2" bd_made=$home/target/bin/$2 bd_also=$home/target/stamp/$2 ;; # rt's own mark: removed while it builds
-    archive) bd_what=lib$2.a bd_made=$home/target/staticlib/lib$2.a bd_also=$bd_made ;;
+    program) bd_what="the $2" bd_made=$home/target/bin/$2 bd_from=$home/crates/$bd_crate/out/$bd_crate ;;
+    archive) bd_what=lib$2.a bd_made=$home/target/staticlib/lib$2.a bd_from=$home/crates/$bd_crate/out/lib$bd_crate.a ;;
     esac
     bd_mark=$home/target/built/$2.$1
-    up_to_date "$2" "$bd_made" "$bd_mark" "$bd_also" && return 0
+    up_to_date "$2" "$bd_made" "$bd_mark" && return 0
     command -v rt >/dev/null 2>&1 ||
         fail "$bd_what has to be built, and there is no rt on the path: the Rattle kit is missing (README.md, \"Run it\")"
-    mkdir -p "$home/target/built" 2>/dev/null && [ -w "$home/target" ] && [ -w "$home/target/built" ] ||
+    mkdir -p "$home/target/built" "${bd_made%/*}" 2>/dev/null && [ -w "$home/target" ] && [ -w "$home/target/built" ] && [ -w "${bd_made%/*}" ] ||
         fail "$bd_what has to be built, and you may not write in $home/target"
     lock
-    if ! up_to_date "$2" "$bd_made" "$bd_mark" "$bd_also"; then
+    if ! up_to_date "$2" "$bd_made" "$bd_mark"; then
         complain "building $bd_what; the first time it takes some minutes"
         rm -f "$bd_mark"
         : >"$bd_mark.new"
@@ -119,6 +108,8 @@ build() {
             tail -n 20 "$home/target/build.log" | cut -c 1-300 >&2
             fail "$bd_what could not be built; $home/target/build.log has all that was said"
         fi
+        # It takes its name last, so that what runs is never cut.
+        cp "$bd_from" "$bd_made.new" && mv -f "$bd_made.new" "$bd_made" || fail "$bd_what could not be put into ${bd_made%/*}"
         mv "$bd_mark.new" "$bd_mark"
         complain "built"
     fi

@@ -8,8 +8,11 @@ cd "$(dirname "$0")/.."
 
 # The promises, which are the contracts of public functions: of the calls for C, and then of the reading as a value, of the programs and of
 # the floating operations alone.
-calls=crates/kujawian/src/lib.rt
-others="crates/panel/src/lib.rt crates/listing/src/lib.rt crates/running/src/lib.rt crates/floating_c/src/lib.rt"
+calls=crates/kujawian_c/src/lib.rt
+others="crates/panel/src/lib.rt crates/listing/src/lib.rt crates/running/src/lib.rt crates/input/src/lib.rt crates/floating_c/src/lib.rt"
+
+# The calls of kujawian, which those for C call, and which the three demands are about.
+called=crates/kujawian/src/lib.rt
 
 # What the theorems of the three demands say is believed too.
 theorems=$(find crates/demands/specs -name '*.antt' ! -name Lib.antt | sort)
@@ -21,14 +24,16 @@ definitions=$(find crates/*/specs -name '*.antt' ! -name Lib.antt | sort)
 cited() {
     # shellcheck disable=SC2086
     awk -v roots="$*" '
-        FILENAME ~ /\.rt$/ && /^[a-z#]/ { public = /^pub / }
-        FILENAME ~ /\.rt$/ && public && /^ *(requires|ensures) / { said[FILENAME] = said[FILENAME] " " $0 }
-        match($0, /^(ghost )?use Rattle·[a-z_]+(·specs)?\.specs\.[A-Z][A-Za-z]*\./) {
+        FNR == 1 { is_there[FILENAME] = 1 }
+        # Of a public function the clauses are read, from the first to the body.
+        FILENAME ~ /\.rt$/ && /^[a-z#{]/ { public = /^pub /; clauses = 0 }
+        FILENAME ~ /\.rt$/ && public && /^ *(requires|ensures) / { clauses = 1 }
+        FILENAME ~ /\.rt$/ && clauses { said[FILENAME] = said[FILENAME] " " $0 }
+        match($0, /^(ghost )?use Rattle\.[a-z_]+\.specs\.[A-Z][A-Za-z]*\./) {
             path = substr($0, RSTART, RLENGTH - 1)
             names = substr($0, RSTART + RLENGTH)
             gsub(/[{};]/, "", names)
-            sub(/^(ghost )?use Rattle·/, "", path)
-            sub(/·specs/, "", path)
+            sub(/^(ghost )?use Rattle\./, "", path)
             split(path, part, ".")
             n = ++uses[FILENAME]
             to[FILENAME, n] = "crates/" part[1] "/specs/" part[3] ".antt"
@@ -53,7 +58,8 @@ cited() {
                     gsub(/[(){},]/, " ", text)
                     for (j = 1; j <= uses[file[i]]; j++) {
                         next_file = to[file[i], j]
-                        if (next_file in seen) continue
+                        # A definition of the library is not one of the repository.
+                        if (next_file in seen || !(next_file in is_there)) continue
                         if (file[i] ~ /\.rt$/ && !named(brought[file[i], j], text)) continue
                         seen[next_file] = 1
                         print next_file
@@ -74,6 +80,14 @@ say() {
     echo "believed: $*"
     bad=1
 }
+
+# What C calls and what the demands are about promise the same, word for word.
+said_by() {
+    awk '/^[a-z#{]/ { public = /^pub / } public { sub(/^pub extern "C" /, "pub "); print }' "$1"
+}
+if [ "$(said_by "$calls")" != "$(said_by "$called")" ]; then
+    say "$calls and $called do not promise the same"
+fi
 
 # shellcheck disable=SC2086
 believed=$({ cited "$calls" $others $theorems; echo "$theorems"; } | sort -u)

@@ -191,23 +191,25 @@ front "$top/run" "$top/list" clone
 clone=$tmp/clone
 mkdir -p "$clone/crates" "$tmp/stand-in"
 cp -R lib run list crates.txt VERSION "$clone"
-for crate in $(home=$top; name=front; . lib/build.sh; trap - EXIT; plan lister | sed 's/.*://'); do cp -R "crates/$crate" "$clone/crates"; done
+for crate in $(home=$top; name=front; . lib/build.sh; trap - EXIT; plan lister | sed 's/.*://'); do
+    mkdir "$clone/crates/$crate"
+    for part in src specs proofs; do
+        [ ! -e "crates/$crate/$part" ] || cp -R "crates/$crate/$part" "$clone/crates/$crate"
+    done
+done
 cat >"$tmp/stand-in/rt" <<END
 #!/bin/sh
-# stands in for rt: check NAME...
-shift
-echo "\$*" >>"$tmp/rt.log"
-mkdir -p target/bin
-for crate in "\$@"; do
-    [ "\$crate" != broken ] || exit 1
-    if [ "\$crate" = lister ]; then
-        head -c 500 "$top/target/bin/lister" >target/bin/lister
-        chmod +x target/bin/lister
-        sleep 1
-        cp "$top/target/bin/lister" target/bin/lister
-    fi
-done
-[ ! -e "$tmp/no-proof" ] || { echo "rt: state NOT PROVED"; exit 1; }
+# stands in for rt, in a crate's folder: rt lib; of a program rt run
+crate=\${PWD##*/}
+echo "\$* \$crate" >>"$tmp/rt.log"
+mkdir -p out
+if [ "\$*" = "run" ]; then
+    head -c 500 "$top/target/bin/\$crate" >"out/\$crate"
+    chmod +x "out/\$crate"
+    sleep 1
+    cp "$top/target/bin/\$crate" "out/\$crate"
+fi
+[ "\$crate" != lister ] || [ ! -e "$tmp/no-proof" ] || { echo "fn lister::main: not proved"; exit 1; }
 END
 chmod +x "$tmp/stand-in/rt"
 # The tools, without rt and without flock.
@@ -245,9 +247,10 @@ for locks in flock mkdir; do
         [ "$(cat "$tmp/status.$k")" = 0 ] && cmp -s "$tmp/out.$k" "$listed" ||
             wrong "three at once ($locks): number $k ended with $(cat "$tmp/status.$k"): $(tail -n 2 "$tmp/err.$k")"
     done
-    [ "$(grep -c lister "$tmp/rt.log")" = 1 ] || wrong "three at once ($locks): the lister was built $(grep -c lister "$tmp/rt.log") times"
+    [ "$(grep -c '^run lister$' "$tmp/rt.log")" = 1 ] || wrong "three at once ($locks): the lister was built $(grep -c '^run lister$' "$tmp/rt.log") times"
+    [ "$(grep -c '^lib state$' "$tmp/rt.log")" = 1 ] || wrong "three at once ($locks): the crate state was built $(grep -c '^lib state$' "$tmp/rt.log") times"
     cat "$tmp"/err.[123] >"$tmp/err.all"
-    grep -q 'proving 2 of 5: state$' "$tmp/err.all" || wrong "a build ($locks) does not say 'proving 2 of 5: state' but: $(head -n 3 "$tmp/err.all")"
+    grep -q 'proving 3 of 6: state$' "$tmp/err.all" || wrong "a build ($locks) does not say 'proving 3 of 6: state' but: $(head -n 3 "$tmp/err.all")"
     grep -q 'waiting' "$tmp/err.all" || wrong "three at once ($locks): none says that it waits"
     try 0 "what is built is not built again ($locks)" env PATH="$tmp/tools" "$clone/list" "$saved"
     prints "$listed"
@@ -260,7 +263,7 @@ sleep 1
 touch "$clone/crates/lister/src/main.rt"
 try 0 "a lock left behind" env PATH="$tmp/stand-in:$tmp/tools" "$clone/list" "$saved"
 prints "$listed"
-says 'proving 5 of 5: lister'
+says 'proving 6 of 6: lister'
 [ ! -e "$clone/target/lock.held" ] || wrong "$what: the lock is still held"
 
 # ---- another user, who may not write
@@ -288,7 +291,7 @@ if command -v rt >/dev/null 2>&1 && [ -w target ]; then
     touch crates/lister/src/main.rt
     try 0 "rt, on a file that was touched" ./list "$saved"
     prints "$listed"
-    says 'proving 5 of 5: lister'
+    says 'proving 6 of 6: lister'
     try 0 "rt is not called again" ./list "$saved"
     quiet
 fi

@@ -2,7 +2,7 @@
 # Runs the lister over each stored input and compares what it writes. Exits with 1 on a difference.
 cd "$(dirname "$0")/.." || exit 1
 lister=target/bin/lister
-[ -x "$lister" ] || { echo "lister.sh: $lister is missing: rt check lister makes it"; exit 1; }
+[ -x "$lister" ] || { echo "lister.sh: $lister is missing: make builds it"; exit 1; }
 runs=0
 failed=0
 for input in tests/lister/*.in.gz; do

@@ -32,7 +32,10 @@ same "the C program"
 block '### A worked job' 1 >"$out/start.txt"
 block '### A worked job' 2 >"$out/lines"
 block '### A worked job' 4 >"$out/expected"
-ln -s "$home/examples" "$home/run" "$out"
-(cd "$out" && sh -e ./lines) >"$out/given"
+# What the lines name is made to lie beside them, in a folder outside the clone: a link within it would stop the next rt ci.
+work=$(mktemp -d)
+ln -s "$home/examples" "$home/run" "$work"
+cp "$out/start.txt" "$out/lines" "$work"
+(cd "$work" && sh -e ./lines) >"$out/given"
 same "the worked job"
 echo "manual: its C program and its job print what it says"

@@ -1,11 +1,11 @@
 #!/bin/sh
-# How definitions and proofs are written: each file begins with what it is about, lines stay under 160 characters, and a fact on the way
-# through a function is named by its type and not by how many steps back it lies.
+# How definitions and proofs are written: each file begins with what it is about, lines stay under 160 characters (but for imports, each of which
+# rt fmt keeps on one line), and a fact on the way through a function is named by its step and not by how many steps back it lies.
 set -eu
 cd "$(dirname "$0")/.."
 LC_ALL=C.UTF-8
 export LC_ALL
-files=$(find crates -path '*/target' -prune -o -name '*.antt' -print | sort)
+files=$(find crates -path 'crates/*/out' -prune -o -name '*.antt' -print | sort)
 bad=0
 for file in $files; do
     case $(head -n 1 "$file") in
@@ -17,7 +17,7 @@ for file in $files; do
     esac
 done
 # shellcheck disable=SC2086
-if grep -nE '^.{160,}' $files | cut -c 1-120; then :; fi >"${TMPDIR:-/tmp}/proofs.$$"
+if grep -nE '^.{160,}' $files | grep -vE '^[^:]*:[0-9]*:(unfoldable |pub )*use ' | cut -c 1-120; then :; fi >"${TMPDIR:-/tmp}/proofs.$$"
 if [ -s "${TMPDIR:-/tmp}/proofs.$$" ]; then
     echo "proofs: lines of 160 characters and more:"
     cat "${TMPDIR:-/tmp}/proofs.$$"

@@ -10,7 +10,7 @@ independent/target/release/make_saved "$runs"
 [ $# -gt 0 ] || set -- lister runner
 status=0
 for program in "$@"; do
-    [ -x "target/bin/$program" ] || { echo "target/bin/$program is not built"; exit 1; }
+    [ -x "target/bin/$program" ] || { echo "target/bin/$program is not built: make builds it"; exit 1; }
     count=0
     for run in "$runs/$program"/*/; do
         "target/bin/$program" < "${run}stdin" > "${run}given" || { echo "$run: exit status $?"; status=1; }
