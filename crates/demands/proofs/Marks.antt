@@ -256,7 +256,8 @@ module _ (bytes : List ℕ) (l : Lent) (s : Sized l) where
         };
         marks = λ r i h k. (
           λ t. inr tt,
-          λ w. ap (λ (m : List ℕ). mark_of m r i) all ∙ ap (λ (x : ℕ). bit x i) (get_or-replicate 16 r (first_elements 64) 0 h) ∙ first-bits 64 i ∙ lt-ltb i 64 k,
+          λ w. ap (λ (m : List ℕ). mark_of m r i) all ∙ ap (λ (x : ℕ). bit x i) (get_or-replicate 16 r (first_elements 64) 0 h) ∙ first-bits 64 i
+              ∙ lt-ltb i 64 k,
         );
         kept = λ r i h k none. absurd (none tt);
       }

@@ -337,7 +337,8 @@ module _ (q : Queue) where
     back p i a (inr w) = by w.0 w.1 w.2
       where
         by : (j : ℕ) → j < suc (length list)
-            → step_wrote (instruction_at q (position (get_or (x ∷ list) j 0))) (element (get_or (x ∷ list) j 0)) (walk (act q) (take j (x ∷ list)) r).control p i
+            → step_wrote (instruction_at q (position (get_or (x ∷ list) j 0))) (element (get_or (x ∷ list) j 0))
+            (walk (act q) (take j (x ∷ list)) r).control p i
             ≡ true
             → (mark_of (act q x r).gathered.marks p i ≡ true) ⊎ WalkWrote (act q x r) list p i
         by zero h e = inl (first.marks p i a ∙ or-one (mark_of r.gathered.marks p i) (entry_writes p i) (inr e))

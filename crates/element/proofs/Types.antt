@@ -67,7 +67,8 @@ of-conversion : (conversion : ℕ) (exc : Bool) (b : ℕ) → vaer_in_range (con
 of-conversion conversion exc b = go (eqb conversion 5) (eqb conversion 4)
   where
     go : (s t : Bool)
-        → vaer_in_range (pick s (rounded_longword F exc (low b)) (pick t (truncated_longword F exc (low b)) (answered exc (from_longword F (low b))))).types ≡ true
+        → vaer_in_range (pick s (rounded_longword F exc (low b))
+        (pick t (truncated_longword F exc (low b)) (answered exc (from_longword F (low b))))).types ≡ true
     go true t = of-longword F near exc (low b)
     go false true = of-longword F chopped exc (low b)
     go false false = of-outcome exc (from_longword F (low b))

@@ -31,7 +31,8 @@ module _ (x : ℕ) (lo : 0 < x) (hi : x < 2 ^ 64) where
 -- ---- p + 1 digits or p + 2, moved up to p + 2
 module _ (p x z : ℕ) (lo : 2 ^ p ≤ x) (hi : x < 2 ^ (p + 2)) where
   pub short-by : z ≡ pick (ltb x (2 ^ (p + 1))) 1 0 → (z < 2) × (2 ^ (p + 1) ≤ x * 2 ^ z) × (x * 2 ^ z < 2 ^ (p + 2))
-  short-by hz = subst (λ (y : ℕ). (y < 2) × (2 ^ (p + 1) ≤ x * 2 ^ y) × (x * 2 ^ y < 2 ^ (p + 2))) (sym hz) (go (ltb x (2 ^ (p + 1))) (ltb→lt x (2 ^ (p + 1))) (nltb→le x (2 ^ (p + 1))))
+  short-by hz = subst (λ (y : ℕ). (y < 2) × (2 ^ (p + 1) ≤ x * 2 ^ y) × (x * 2 ^ y < 2 ^ (p + 2))) (sym hz)
+      (go (ltb x (2 ^ (p + 1))) (ltb→lt x (2 ^ (p + 1))) (nltb→le x (2 ^ (p + 1))))
     where
       once : 2 ^ p * 2 ≡ 2 ^ (p + 1)
       once = pow-two p 1 (p + 1) refl
@@ -39,7 +40,8 @@ module _ (p x z : ℕ) (lo : 2 ^ p ≤ x) (hi : x < 2 ^ (p + 2)) where
       twice : 2 ^ (p + 1) * 2 ≡ 2 ^ (p + 2)
       twice = pow-two (p + 1) 1 (p + 2) (omega arith)
 
-      go : (t : Bool) → (T t → x < 2 ^ (p + 1)) → (T (not t) → 2 ^ (p + 1) ≤ x) → (pick t 1 0 < 2) × (2 ^ (p + 1) ≤ x * 2 ^ pick t 1 0) × (x * 2 ^ pick t 1 0 < 2 ^ (p + 2))
+      go : (t : Bool) → (T t → x < 2 ^ (p + 1)) → (T (not t) → 2 ^ (p + 1) ≤ x)
+          → (pick t 1 0 < 2) × (2 ^ (p + 1) ≤ x * 2 ^ pick t 1 0) × (x * 2 ^ pick t 1 0 < 2 ^ (p + 2))
       go true less more = let h = less tt in let a = once in let b = twice in (omega arith, omega arith, omega arith)
       go false less more = let h = more tt in (omega arith, omega arith, omega arith)
 

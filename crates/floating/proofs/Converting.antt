@@ -168,7 +168,8 @@ module _ (f : Format) (exc : Bool) (w h : ℕ) (hh : h < 2) where
   point = f.bits + f.excess
 
   -- no exponent: zero, or with the sign a reserved operand
-  pub source-none : (e s y : ℕ) → e ≡ exponent_of f w → e ≡ 0 → s ≡ sign_of f w → y ≡ s * 4 → record { value = 0; types = y } ≡ to_longword f (whole_by h) exc w
+  pub source-none : (e s y : ℕ) → e ≡ exponent_of f w → e ≡ 0 → s ≡ sign_of f w → y ≡ s * 4
+      → record { value = 0; types = y } ≡ to_longword f (whole_by h) exc w
   source-none e s y he z hs hy = go (eqb (sign_of f w) 1) refl
     where
       x : eqb (exponent_of f w) 0 ≡ true

@@ -328,7 +328,8 @@ module _ (f : Format) (relation a b : ℕ) where
       → record { bit = false; types = 4 } ≡ compared f relation a b
   compare-right t u h n g y = let e : is_reserved f a ≡ false = sym h ∙ n in let e' : is_reserved f b ≡ true = sym g ∙ y in sym (simp (e, e'))
 
-  pub compare-both : (t u v : Bool) (o : ℕ) → t ≡ is_reserved f a → t ≡ false → u ≡ is_reserved f b → u ≡ false → o ≡ side (minus (value_of f a) (value_of f b))
+  pub compare-both : (t u v : Bool) (o : ℕ) → t ≡ is_reserved f a → t ≡ false → u ≡ is_reserved f b → u ≡ false
+      → o ≡ side (minus (value_of f a) (value_of f b))
       → v ≡ not (beq (eqb o (relation % 4)) (eqb (relation / 4 % 2) 1)) → record { bit = v; types = 0 } ≡ compared f relation a b
   compare-both t u v o h n g m ho hv =
       let e1 : is_reserved f a ≡ false = sym h ∙ n in

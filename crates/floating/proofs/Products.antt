@@ -98,13 +98,15 @@ sign-chosen f a b s t r hs ht hr = go (eqb s t) refl hr
     go true e h = let g : s ≡ t = eqb-true s t e in (omega arith, omega arith)
     go false e h = let g : (s ≡ t → ⊥) = eqb-false s t e in (omega (arith, g), omega arith)
 
-pub special-product : (f : Format) (a b : ℕ) (p q : Bool) (v y : ℕ) → ((exponent_of f a ≡ 0 → ⊥) → exponent_of f b ≡ 0) → p ≡ is_reserved f a → q ≡ is_reserved f b
+pub special-product : (f : Format) (a b : ℕ) (p q : Bool) (v y : ℕ) → ((exponent_of f a ≡ 0 → ⊥) → exponent_of f b ≡ 0) → p ≡ is_reserved f a
+    → q ≡ is_reserved f b
     → v ≡ pick (p || q) 0x8004 0 → y ≡ pick (p || q) 4 0 → (exc : Bool) → record { value = v; types = y } ≡ answered exc (product f a b)
 special-product f a b p q v y h hp hq hv hy exc =
     ap (λ (z : ℕ). record { value = z; types = y }) hv ∙ ap (λ (z : ℕ). record { value = pick (p || q) 0x8004 0; types = z }) hy ∙ go (p || q) refl
   where
     go : (t : Bool) → (p || q) ≡ t → record { value = pick t 0x8004 0; types = pick t 4 0 } ≡ answered exc (product f a b)
-    go true e = answer-reserved exc (product f a b) (refused (is_reserved f a) (is_reserved f b) p q (delivered f (times (value_of f a) (value_of f b))) hp hq e)
+    go true e = answer-reserved exc (product f a b)
+        (refused (is_reserved f a) (is_reserved f b) p q (delivered f (times (value_of f a) (value_of f b))) hp hq e)
     go false e =
         answer_word exc (product f a b) 0
         (no-product f a b h ∙ passed (is_reserved f a) (is_reserved f b) p q (delivered f (times (value_of f a) (value_of f b))) hp hq e)

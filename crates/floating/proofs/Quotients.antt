@@ -97,7 +97,8 @@ module _ (Z P Q z p q : Bool) (hp : p ≡ P) (hq : q ≡ Q) (hz : z ≡ Z) where
   pub type-told : (x y o r : ℕ) → x ≡ pick p 6 2 → y ≡ pick p 4 0 → o ≡ pick q 4 y → r ≡ pick z x o → (r ≡ special_quotient_type Z P Q) × (r < 8)
   type-told x y o r hx hy ho hr =
       let told : r ≡ special_quotient_type z p q = hr ∙ ap₂ (pick z) hx (ho ∙ ap (pick q 4) hy) in
-      let e : r ≡ special_quotient_type Z P Q = told ∙ ap (λ (t : Bool). special_quotient_type z t q) hp ∙ ap₂ (λ (t u : Bool). special_quotient_type t P u) hz hq in
+      let e : r ≡ special_quotient_type Z P Q = told ∙ ap (λ (t : Bool). special_quotient_type z t q) hp
+      ∙ ap₂ (λ (t u : Bool). special_quotient_type t P u) hz hq in
       (e, lt_of_le_of_lt (le_of_eq e) (type-small Z P Q))
 
 -- the word of an exception of a type, or zero

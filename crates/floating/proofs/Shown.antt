@@ -43,7 +43,8 @@ module _ (f : Format) (w : ℕ) where
       let q : eqb (sign_of f w) 1 ≡ false = ap (λ (y : ℕ). eqb y 1) (sym hs) ∙ p in
       record {
         kind = sym (simp r);
-        bits = zero_bits ∙ sym (by_tests (is_reserved f w) (eqb (exponent_of f w) 0) (w % 16) (double_bits f (sign_of f w) (exponent_of f w) (fraction_of f w)) r x);
+        bits = zero_bits ∙ sym (by_tests (is_reserved f w) (eqb (exponent_of f w) 0) (w % 16)
+            (double_bits f (sign_of f w) (exponent_of f w) (fraction_of f w)) r x);
         value =
             subst (λ (k : ℕ). HasValue (of_bits binary64 0) (eqb (sign_of f w) 1) k (2 ^ (f.bits + f.excess))) (sym (size_none f w (sym he ∙ z)))
             (zero-value (eqb (sign_of f w) 1) (2 ^ (f.bits + f.excess)) q);
@@ -76,7 +77,8 @@ module _ (l : ℕ) (lo : 2147483648 ≤ l) (hi : l < 4294967296) where
       let e : 4294967296 - suc (4294967295 - l) ≡ l = omega arith in
       ap (λ (z : ℤ). to_z w32 (of_z w32 z)) below-zero ∙ ap (to_z w32) e
 
-pub shows-longword : (w : ℕ) (r : ℤ) → Fits w32 w → r ≡ to_z w32 w → (Longword (to_z w32 (of_z w32 r)) ≡ longword_reading w) × (low32 (to_z w32 (of_z w32 r)) ≡ w)
+pub shows-longword : (w : ℕ) (r : ℤ) → Fits w32 w → r ≡ to_z w32 w
+    → (Longword (to_z w32 (of_z w32 r)) ≡ longword_reading w) × (low32 (to_z w32 (of_z w32 r)) ≡ w)
 shows-longword w r f h =
     let l : w < 2 ^ 32 = f.fits in
     let e : to_z w32 (of_z w32 r) ≡ signed w = ap (to_z w32) (ap (of_z w32) h ∙ of_z-to_z w32 w f) ∙ signed_is w l in

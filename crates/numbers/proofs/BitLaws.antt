@@ -245,7 +245,8 @@ or-odd a b = ap (λ (n : ℕ). n % 2) (or_step a b) ∙ digits_mod (bit_or (a / 
 -- `|` regroups
 pub or_assoc : (a b c : ℕ) → bit_or (bit_or a b) c ≡ bit_or a (bit_or b c)
 or_assoc =
-    bin_ind (λ (a : ℕ). (b c : ℕ) → bit_or (bit_or a b) c ≡ bit_or a (bit_or b c)) (λ b c. ap (λ (n : ℕ). bit_or n c) (or_zero_l b) ∙ sym (or_zero_l (bit_or b c)))
+    bin_ind (λ (a : ℕ). (b c : ℕ) → bit_or (bit_or a b) c ≡ bit_or a (bit_or b c)) (λ b c. ap (λ (n : ℕ). bit_or n c) (or_zero_l b)
+    ∙ sym (or_zero_l (bit_or b c)))
     (λ a ih b c.
     or_step (bit_or a b) c
     ∙ ap₂ (λ (x y : ℕ). bit_or x (c / 2) * 2 + max y (c % 2)) (or-half a b) (or-odd a b)

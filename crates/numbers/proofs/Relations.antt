@@ -50,7 +50,8 @@ pub opposite : (relation : ℕ) (less equal : Bool)
 opposite relation less equal =
     sym (by_parts_lem relation less equal)
     ∙ at (eqb (relation / 4 % 2) 1)
-    ∙ ap (λ (t : Bool). pick (eqb (relation / 4 % 2) 1) (not t) t) (ap₂ (λ (k o : ℕ). by_parts k o less equal) kept none ∙ by_parts_lem (relation % 4) less equal)
+    ∙ ap (λ (t : Bool). pick (eqb (relation / 4 % 2) 1) (not t) t) (ap₂ (λ (k o : ℕ). by_parts k o less equal) kept none
+    ∙ by_parts_lem (relation % 4) less equal)
   where
     plain : Bool
     plain = eqb (relation % 4) 0 && not (less || equal) || eqb (relation % 4) 1 && equal || eqb (relation % 4) 2 && less

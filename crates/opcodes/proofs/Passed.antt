@@ -68,16 +68,19 @@ absurdly : {A : Type 0} → ◌≡◌ {A = ℕ} 0 1 → A
 absurdly z = absurd (omega arith)
 
 -- an accepted control word: the instruction is made of it
-made : (w : ℕ) (s b : Bool) (c : ℕ) (i : Instruction) → pick b word.Reserved (word.Accepted (instruction_of w s c)) ≡ word.Accepted i → i ≡ instruction_of w s c
+made : (w : ℕ) (s b : Bool) (c : ℕ) (i : Instruction) → pick b word.Reserved (word.Accepted (instruction_of w s c)) ≡ word.Accepted i
+    → i ≡ instruction_of w s c
 made w s true c i e = absurdly (cc)
 made w s false c i e = cc
 
-worded : (p w : ℕ) (s : Bool) (c : ℕ) (i : Instruction) (x : ControlWord) → x ≡ control_word_of w s c → by_control_word p x ≡ Accepted i → i ≡ instruction_of w s c
+worded : (p w : ℕ) (s : Bool) (c : ℕ) (i : Instruction) (x : ControlWord) → x ≡ control_word_of w s c → by_control_word p x ≡ Accepted i
+    → i ≡ instruction_of w s c
 unfolding control_word_of
 worded p w s c i word.Reserved f e = absurdly (cc)
 worded p w s c i (word.Accepted j) f e = made w s (refused (instruction_of w s c)) c i (sym f ∙ (cc))
 
-of-made : (q : Bool) (w : ℕ) (s : Bool) (c : ℕ) (i : Instruction) → i ≡ instruction_of w s c → in_table w ≡ true → (q ≡ true → is_memory w ≡ false) → Passed q i
+of-made : (q : Bool) (w : ℕ) (s : Bool) (c : ℕ) (i : Instruction) → i ≡ instruction_of w s c → in_table w ≡ true → (q ≡ true → is_memory w ≡ false)
+    → Passed q i
 of-made q w s c i e t m =
     let a : i.va.0 ≡ va_of c = ap (λ (j : Instruction). j.va.0) e in
     let b : i.vb.0 ≡ vb_of c = ap (λ (j : Instruction). j.vb.0) e in
@@ -114,7 +117,8 @@ opcode-refusal : (e q : Bool) (p c : ℕ) (o : Opcode) (a : Answer) → by_opcod
 opcode-refusal e q p c opcode.Reserved a f = let g : ReservedOpcode p ≡ a = cc in ap is_done (sym g)
 opcode-refusal e q p c (opcode.Accepted w s) a f = go e (q && is_memory w) f
   where
-    go : (x y : Bool) → pick x (pick y (Refused (MemoryOpcode p)) (by_control_word p (control_word_of w s c))) (Refused Disabled) ≡ Refused a → is_done a ≡ false
+    go : (x y : Bool) → pick x (pick y (Refused (MemoryOpcode p)) (by_control_word p (control_word_of w s c))) (Refused Disabled) ≡ Refused a
+        → is_done a ≡ false
     go false y g = let h : Disabled ≡ a = cc in ap is_done (sym h)
     go true true g = let h : MemoryOpcode p ≡ a = cc in ap is_done (sym h)
     go true false g = word-refusal p (control_word_of w s c) a g

@@ -275,7 +275,8 @@ module _ (n vlr iotas : ℕ) (few : n ≤ 16) (short : vlr ≤ 64) where
             (λ t. T_true _ (→somewhere left 64 (position x) (λ e g.
             inv.alike (position x) e sx.at z g ∙ sym (ap (λ (j : ℕ). gone left j (position x)) (first x sx z)) ∙ true-T _ t)))
 
-        entry-same : (b : Bool) → bit iotas (position x) ≡ b → (not (has_come left x) && each awaited (steps_by n vlr iotas)) ≡ due needed (seen b) (position x)
+        entry-same : (b : Bool) → bit iotas (position x) ≡ b
+            → (not (has_come left x) && each awaited (steps_by n vlr iotas)) ≡ due needed (seen b) (position x)
         entry-same b z = ap₂ (λ (u v : Bool). u && v) (ap not (sym (fresh-same b z)) ∙ not-not (bit (seen b) (position x))) (due-same b z)
 
       -- THE CODE'S TEST IS THE CHECK'S
@@ -295,7 +296,8 @@ module _ (n vlr iotas : ℕ) (few : n ≤ 16) (short : vlr ≤ 64) where
               (due (get_or bound (position x) 0) (get_or left (element x) 0) (position x))
           core h true z = by (ℕ_discrete (element x) 0)
             where
-              by : Dec (element x ≡ 0) → (ltb (element x) 1 && rest) ≡ (eqb (element x) 0 && due (get_or bound (position x) 0) (somewhere left 64) (position x))
+              by : Dec (element x ≡ 0) → (ltb (element x) 1 && rest) ≡
+                  (eqb (element x) 0 && due (get_or bound (position x) 0) (somewhere left 64) (position x))
               by (yes e) =
                   ap (λ (t : Bool). t && rest) (lt-ltb (element x) 1 (omega arith))
                   ∙ entry-same x (record { at = h; of = subst (λ (b : Bool). element x < pick b 1 vlr) (sym z) (omega arith) }) true z
@@ -312,7 +314,8 @@ module _ (n vlr iotas : ℕ) (few : n ≤ 16) (short : vlr ≤ 64) where
               by (no e) =
                   ap (λ (t : Bool). t && rest) (le-ltb (element x) vlr (omega arith))
                   ∙ sym (ap (λ (t : Bool). t && apart (get_or bound (position x) 0) (get_or left (element x) 0))
-                  (sym (not-not (bit (get_or left (element x) 0) (position x))) ∙ ap not (inv.beyond (position x) (element x) h z (omega arith) (omega arith))))
+                  (sym (not-not (bit (get_or left (element x) 0) (position x)))
+                  ∙ ap not (inv.beyond (position x) (element x) h z (omega arith) (omega arith))))
 
           go : Dec (position x < n) → (b : Bool) → bit iotas (position x) ≡ b
               → ((ltb (position x) n && ltb (element x) (count_by vlr iotas (position x))) && rest)

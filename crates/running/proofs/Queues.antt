@@ -72,7 +72,8 @@ module _ (bytes : List ℕ) (t : Bool) (e : t ≡ well_formed bytes) where
     unfolding records_run queue_in
     queue-ran s o o₀ w w₀ x x₀ ran ho hw hx eo ew ex r =
         let g = sym e ∙ not-false t u in
-        rw (g, ← part-each (opcode_at bytes) o₀ o ho eo, ← part-each (control_word_at bytes) w₀ w hw ew, ← part-each (scalar_at bytes) x₀ x hx ex) (ap unmarked r)
+        rw (g, ← part-each (opcode_at bytes) o₀ o ho eo, ← part-each (control_word_at bytes) w₀ w hw ew, ← part-each (scalar_at bytes) x₀ x hx ex)
+        (ap unmarked r)
 
 -- ---- the file and the records after it
 module _ (input : List ℕ) (size : ℕ) (e : size ≡ file_size (length input)) where

@@ -73,7 +73,8 @@ pub fill-starts : (file old : List ℕ) → old ≡ elements_in 0 file old
 unfolding elements_in
 fill-starts file old = refl
 
-pub fill-turns : (file old now : List ℕ) (k v : ℕ) → now ≡ elements_in k file old → v ≡ contents_in (record_at file k) → set now k v ≡ elements_in (k + 1) file old
+pub fill-turns : (file old now : List ℕ) (k v : ℕ) → now ≡ elements_in k file old → v ≡ contents_in (record_at file k)
+    → set now k v ≡ elements_in (k + 1) file old
 unfolding elements_in
 fill-turns file old now k v e ev = rw (e, ev, add-one k)
 

@@ -26,7 +26,8 @@ zeros (zero ∷ l) = zeros l ∙ either (number_of l)
 zeros (suc b ∷ l) = ap (λ (t : Bool). t && all_zero l) (ne_eqb (suc b) 0 (λ e. omega arith)) ∙ sym (ne_eqb (suc b + 256 * number_of l) 0 (λ e. omega arith))
 
 -- the number and the filler at once: a number below 65,536 leaves its other bytes zero
-pub head-tells : (part : List ℕ) (k : ℕ) → length part ≡ 16 → k < 65536 → eqb (number_of (take 8 part)) k ≡ (eqb (number_in part) k && all_zero (filler_in part))
+pub head-tells : (part : List ℕ) (k : ℕ) → length part ≡ 16 → k < 65536
+    → eqb (number_of (take 8 part)) k ≡ (eqb (number_in part) k && all_zero (filler_in part))
 head-tells [] k e h = absurd (omega arith)
 head-tells (a ∷ []) k e h = absurd (omega arith)
 head-tells (a ∷ b ∷ l) k e h = either (number_of (take 6 l)) ∙ ap (λ (t : Bool). eqb (a + 256 * (b + 0)) k && t) (sym (zeros (take 6 l)))

@@ -59,7 +59,8 @@ marks-rise m r which n small =
     mark i x = also_marked x r (one_element i)
 
 -- the bit of an element after a set of register r's joined the marks
-pub marked-bit : (m : List ℕ) (r which p i : ℕ) → r < length m → bit (get_or (also_marked m r which) p 0) i ≡ (bit (get_or m p 0) i || (eqb p r && bit which i))
+pub marked-bit : (m : List ℕ) (r which p i : ℕ) → r < length m
+    → bit (get_or (also_marked m r which) p 0) i ≡ (bit (get_or m p 0) i || (eqb p r && bit which i))
 marked-bit m r which p i h = at (ℕ_discrete p r)
   where
     at : Dec (p ≡ r) → bit (get_or (also_marked m r which) p 0) i ≡ (bit (get_or m p 0) i || (eqb p r && bit which i))

@@ -231,7 +231,8 @@ ones-bind a b e f =
 binds-comm : (a b : Instruction) → binds a b ≡ binds b a
 unfolding binds
 binds-comm a b =
-    ap₂ (λ (t u : Bool). t || reads_place b (target a) || reads_place a (target b) || u) (eqb_comm (target a) (target b)) (and_comm (in_one_step a) (in_one_step b))
+    ap₂ (λ (t u : Bool). t || reads_place b (target a) || reads_place a (target b) || u) (eqb_comm (target a) (target b))
+    (and_comm (in_one_step a) (in_one_step b))
     ∙ turn (eqb (target b) (target a)) (reads_place b (target a)) (reads_place a (target b)) _
   where
     turn : (t f g u : Bool) → (t || f || g || u) ≡ (t || g || f || u)

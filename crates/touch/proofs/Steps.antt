@@ -43,7 +43,8 @@ module _ (q : Queue) (vlr : ℕ) where
 
   pub makes-step : (x : ℕ) → position x < size q → element x < step_count (instruction_at q (position x)) vlr → T (is_step q vlr x)
   unfolding is_step
-  makes-step x h k = T_and (ltb (position x) (size q)) _ (lt→ltb (position x) (size q) h) (lt→ltb (element x) (step_count (instruction_at q (position x)) vlr) k)
+  makes-step x h k = T_and (ltb (position x) (size q)) _ (lt→ltb (position x) (size q) h)
+      (lt→ltb (element x) (step_count (instruction_at q (position x)) vlr) k)
 
   pub step_of : (x : ℕ) → Mem x (steps_of q vlr) → T (is_step q vlr x)
   unfolding steps_of

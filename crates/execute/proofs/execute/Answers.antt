@@ -14,7 +14,8 @@ first s = marked (state s.args.elements.now s.args.control) s.args.marks.now
 
 pub returns-then-not-in_range : goal.returns-then-not-in_range
 returns-then-not-in_range c =
-    out_of_range_lem (first (goal.at.returns-then-not-in_range c).Start) _ _ _ _ _ _ _ _ c.in_range.ensures (ap not c.if-not-in_range.true) c.refused.result c.refused.ensures
+    out_of_range_lem (first (goal.at.returns-then-not-in_range c).Start) _ _ _ _ _ _ _ _ c.in_range.ensures (ap not c.if-not-in_range.true)
+    c.refused.result c.refused.ensures
 
 pub carry_out-requires : goal.carry_out-requires
 carry_out-requires c =

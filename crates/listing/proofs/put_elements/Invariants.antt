@@ -7,7 +7,8 @@ use Rattle.listing.specs.Working.{Wrote}
 use Rattle.listing.proofs.put_elements.Given as goal
 
 abbrev pub invariant-loop-k : goal.invariant-loop-k
-invariant-loop-k l = (l.k ≤ 1024) × (Wrote l.initial.text l.text 0 l.at (element_lines l.k l.elements) × ((l.at ≤ 25 * l.k) × (length l.text ≡ length l.initial.text)))
+invariant-loop-k l = (l.k ≤ 1024)
+    × (Wrote l.initial.text l.text 0 l.at (element_lines l.k l.elements) × ((l.at ≤ 25 * l.k) × (length l.text ≡ length l.initial.text)))
 
 abbrev pub decreases-loop-k : goal.decreases-loop-k
 decreases-loop-k l = 1024 - l.k

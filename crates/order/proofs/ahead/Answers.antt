@@ -29,7 +29,12 @@ loop-i-init c =
 pub pair-half-requires : goal.pair-half-requires
 pair-half-requires c =
     let more = c.loop-i-test.true in
-    record { sizes = (c.loop-i.invariant.long, c.requires.sizes.1, omega arith); earlier = c.requires.earlier; grouped = c.requires.grouped; stays = c.loop-i.invariant.stays }
+    record {
+      sizes = (c.loop-i.invariant.long, c.requires.sizes.1, omega arith);
+      earlier = c.requires.earlier;
+      grouped = c.requires.grouped;
+      stays = c.loop-i.invariant.stays;
+    }
 
 pub returns-then-half-i : goal.returns-then-half-i
 returns-then-half-i c = (half (goal.at.returns-then-half-i c).After-pair-half).so_far
@@ -37,7 +42,12 @@ returns-then-half-i c = (half (goal.at.returns-then-half-i c).After-pair-half).s
 pub pair-i-requires : goal.pair-i-requires
 pair-i-requires c =
     let more = c.loop-i-test.true in let two = c.if-half-i.false in
-    record { sizes = ((half (goal.at.pair-i-requires c).After-pair-half).long, c.requires.sizes.1, omega arith); earlier = c.requires.earlier; grouped = c.requires.grouped; stays = (half (goal.at.pair-i-requires c).After-pair-half).stays }
+    record {
+      sizes = ((half (goal.at.pair-i-requires c).After-pair-half).long, c.requires.sizes.1, omega arith);
+      earlier = c.requires.earlier;
+      grouped = c.requires.grouped;
+      stays = (half (goal.at.pair-i-requires c).After-pair-half).stays;
+    }
 
 pub returns-then-i-half : goal.returns-then-i-half
 returns-then-i-half c = (whole (goal.at.returns-then-i-half c).After-pair-i).so_far

@@ -18,7 +18,12 @@ fill-requires c = (refl, c.requires.sizes.0)
 
 pub ahead-i-requires : goal.ahead-i-requires
 ahead-i-requires c =
-    record { sizes = ((begun (goal.at.ahead-i-requires c).After-start).long, c.requires.sizes.0, zero-le); earlier = c.requires.earlier; grouped = c.fill.ensures; stays = (begun (goal.at.ahead-i-requires c).After-start).sentinel-left }
+    record {
+      sizes = ((begun (goal.at.ahead-i-requires c).After-start).long, c.requires.sizes.0, zero-le);
+      earlier = c.requires.earlier;
+      grouped = c.fill.ensures;
+      stays = (begun (goal.at.ahead-i-requires c).After-start).sentinel-left;
+    }
 
 pub loop-i-init : goal.loop-i-init
 loop-i-init c =
@@ -41,7 +46,16 @@ one c =
 
 pub ahead-i-requires-in-loop-i : goal.ahead-i-requires-in-loop-i
 ahead-i-requires-in-loop-i c =
-    record { sizes = ((one (goal.at.ahead-i-requires-in-loop-i c).Else-not-comes).long, c.requires.sizes.0, (one (goal.at.ahead-i-requires-in-loop-i c).Else-not-comes).on.inside); earlier = c.requires.earlier; grouped = c.fill.ensures; stays = (one (goal.at.ahead-i-requires-in-loop-i c).Else-not-comes).sentinel-left }
+    record {
+      sizes = (
+        (one (goal.at.ahead-i-requires-in-loop-i c).Else-not-comes).long,
+        c.requires.sizes.0,
+        (one (goal.at.ahead-i-requires-in-loop-i c).Else-not-comes).on.inside,
+      );
+      earlier = c.requires.earlier;
+      grouped = c.fill.ensures;
+      stays = (one (goal.at.ahead-i-requires-in-loop-i c).Else-not-comes).sentinel-left;
+    }
 
 pub loop-i-smaller : goal.loop-i-smaller
 loop-i-smaller c =
@@ -49,7 +63,8 @@ loop-i-smaller c =
 
 pub loop-i-preserved : goal.loop-i-preserved
 loop-i-preserved c =
-    taken-marked _ _ _ c.requires.sizes.0 c.requires.sizes.1 _ c.requires.earlier _ _ _ (one (goal.at.loop-i-preserved c).Else-not-comes) _ _ c.ahead-i-in-loop-i.ensures
+    taken-marked _ _ _ c.requires.sizes.0 c.requires.sizes.1 _ c.requires.earlier _ _ _ (one (goal.at.loop-i-preserved c).Else-not-comes) _ _
+    c.ahead-i-in-loop-i.ensures
 
 pub ended-requires : goal.ended-requires
 ended-requires c = c.requires.sizes.0

@@ -20,5 +20,6 @@ straight-progress-requires c =
 pub returns : goal.returns
 returns c =
     let fine = sym c.is_done.ensures ∙ c.if-not-is_done.false in
-    run-done _ _ _ _ _ c.accept-accepted.ensures.answered fine c.accept-accepted.result.program (c.accept-accepted.ensures.decoded fine) _ _ _ _ _ c.begin.ensures
+    run-done _ _ _ _ _ c.accept-accepted.ensures.answered fine c.accept-accepted.result.program (c.accept-accepted.ensures.decoded fine) _ _ _ _ _
+    c.begin.ensures
     c.end.ensures c.straight-progress.ensures

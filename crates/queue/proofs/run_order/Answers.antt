@@ -27,7 +27,8 @@ returns-then-not-is_done c =
     record { straight = all.0; walked = all.1.0; demand = all.1.1 }
 
 pub loop-k-init : goal.loop-k-init
-loop-k-init c = prepared-none _ (listed-few _ c.args.elements.now c.args.marks.now _ _ _ c.accept-accepted.ensures (fine (goal.at.loop-k-init c).Else-not-is_done))
+loop-k-init c = prepared-none _
+    (listed-few _ c.args.elements.now c.args.marks.now _ _ _ c.accept-accepted.ensures (fine (goal.at.loop-k-init c).Else-not-is_done))
 
 pub bind-requires : goal.bind-requires
 bind-requires c =
@@ -46,7 +47,8 @@ loop-k-preserved c =
 pub check-requires : goal.check-requires
 check-requires c =
     let all =
-    check-meets _ c.args.elements.now c.args.marks.now _ _ _ c.accept-accepted.ensures (fine (goal.at.check-requires c).Else-not-is_done) _ _ _ _ c.loop-k.invariant
+    check-meets _ c.args.elements.now c.args.marks.now _ _ _ c.accept-accepted.ensures (fine (goal.at.check-requires c).Else-not-is_done) _ _ _ _
+    c.loop-k.invariant
     c.loop-k-test.false in
     record { sizes = all.0; earlier = all.1 }
 
@@ -54,7 +56,8 @@ pub walk-progress-requires : goal.walk-progress-requires
 walk-progress-requires c =
     let z = c.args in
     let all =
-    list-meets _ z.elements.now z.marks.now _ _ _ c.accept-accepted.ensures (fine (goal.at.walk-progress-requires c).Else-not-is_done) _ _ _ _ c.loop-k.invariant c.loop-k-test.false
+    list-meets _ z.elements.now z.marks.now _ _ _ c.accept-accepted.ensures (fine (goal.at.walk-progress-requires c).Else-not-is_done) _ _ _ _
+    c.loop-k.invariant c.loop-k-test.false
     z.list.now _ c.check.ensures c.in-Permitted.is _ c.begin.ensures in
     record { sizes = all.0; runs = all.1.0; positions = all.1.1 }
 
@@ -63,7 +66,8 @@ returns-in-Permitted c =
     let z = c.args in
     let all =
     three-promises _ z.list.now (marked (state z.elements.now z.control) z.marks.now) _
-    (listed-done _ z.elements.now z.marks.now _ _ _ c.accept-accepted.ensures (fine (goal.at.returns-in-Permitted c).Else-not-is_done) _ _ _ _ c.loop-k.invariant c.loop-k-test.false
+    (listed-done _ z.elements.now z.marks.now _ _ _ c.accept-accepted.ensures (fine (goal.at.returns-in-Permitted c).Else-not-is_done) _ _ _ _
+    c.loop-k.invariant c.loop-k-test.false
     z.list.now _ c.check.ensures c.in-Permitted.is _ c.begin.ensures _ _ _ _ c.end.ensures c.walk-progress.ensures) in
     record { straight = all.0; walked = all.1.0; demand = all.1.1 }
 
@@ -72,6 +76,7 @@ returns-in-Refused c =
     let z = c.args in
     let all =
     three-promises _ z.list.now (marked (state z.elements.now z.control) z.marks.now) _
-    (listed-stopped _ z.elements.now z.marks.now _ _ _ c.accept-accepted.ensures (fine (goal.at.returns-in-Refused c).Else-not-is_done) _ _ _ _ c.loop-k.invariant c.loop-k-test.false
+    (listed-stopped _ z.elements.now z.marks.now _ _ _ c.accept-accepted.ensures (fine (goal.at.returns-in-Refused c).Else-not-is_done) _ _ _ _
+    c.loop-k.invariant c.loop-k-test.false
     z.list.now _ c.check.ensures _ c.in-Refused.is c.refused-in-Refused.result c.refused-in-Refused.ensures) in
     record { straight = all.0; walked = all.1.0; demand = all.1.1 }

@@ -8,7 +8,8 @@ use Rattle.saved.specs.File.{records}
 use Rattle.saved.proofs.put_records.Given as goal
 
 abbrev pub invariant-loop-written : goal.invariant-loop-written
-invariant-loop-written l = (l.written ≤ 1029) × ((l.file ≡ over l.initial.file 0 (records l.written (state l.elements l.control))) × (length l.file ≡ length l.initial.file))
+invariant-loop-written l = (l.written ≤ 1029)
+    × ((l.file ≡ over l.initial.file 0 (records l.written (state l.elements l.control))) × (length l.file ≡ length l.initial.file))
 
 abbrev pub decreases-loop-written : goal.decreases-loop-written
 decreases-loop-written l = 1029 - l.written

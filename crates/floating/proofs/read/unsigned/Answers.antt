@@ -26,7 +26,10 @@ pub overflow_sub-result : goal.overflow_sub-result
 overflow_sub-result c = (left (goal.at.overflow_sub-result c).Else-i-ge0).complement-fits
 
 pub overflow_cast-result-2 : goal.overflow_cast-result-2
-overflow_cast-result-2 c = ((left (goal.at.overflow_cast-result-2 c).Else-i-ge0).complement-up, (left (goal.at.overflow_cast-result-2 c).Else-i-ge0).complement-room)
+overflow_cast-result-2 c = (
+  (left (goal.at.overflow_cast-result-2 c).Else-i-ge0).complement-up,
+  (left (goal.at.overflow_cast-result-2 c).Else-i-ge0).complement-room,
+)
 
 pub overflow_sub-result-2 : goal.overflow_sub-result-2
 overflow_sub-result-2 c = (left (goal.at.overflow_sub-result-2 c).Else-i-ge0).complement-below

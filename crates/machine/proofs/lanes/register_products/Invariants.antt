@@ -6,7 +6,8 @@ use Rattle.numbers.proofs.SetBits.{Walk}
 use Rattle.machine.proofs.lanes.register_products.Given as goal
 
 abbrev pub invariant-loop-left : goal.invariant-loop-left
-invariant-loop-left l = Walk (lane_in false (plainly (product_work l.divide) l.instruction.exc false) l.instruction 0) l.which 64 (lanes l.initial.elements 0) l.left (lanes l.elements l.types)
+invariant-loop-left l = Walk (lane_in false (plainly (product_work l.divide) l.instruction.exc false) l.instruction 0) l.which 64
+    (lanes l.initial.elements 0) l.left (lanes l.elements l.types)
 
 abbrev pub decreases-loop-left : goal.decreases-loop-left
 decreases-loop-left l = l.left

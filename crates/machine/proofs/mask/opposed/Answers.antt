@@ -9,7 +9,8 @@ use Rattle.numbers.proofs.Sets.{bit-or}
 use Rattle.machine.proofs.mask.opposed.Goals as goal
 
 pub returns-then-relation-eq1 : goal.returns-then-relation-eq1
-returns-then-relation-eq1 c = record { found = λ i h. rw (eq-eqb _ _ c.if-relation-eq1.true) (bit-complement 64 _ i (search (or_lt, rules)) h ∙ ap not (bit-or _ _ i)); refused = refl }
+returns-then-relation-eq1 c = record
+    { found = λ i h. rw (eq-eqb _ _ c.if-relation-eq1.true) (bit-complement 64 _ i (search (or_lt, rules)) h ∙ ap not (bit-or _ _ i)); refused = refl }
 
 pub returns-else-relation-eq1 : goal.returns-else-relation-eq1
 returns-else-relation-eq1 c = record { found = λ i h. rw (ne_eqb _ _ c.if-relation-eq1.false) refl; refused = refl }

@@ -22,7 +22,8 @@ loop-k-init c =
 
 pub returns-in-Refused : goal.returns-in-Refused
 returns-in-Refused c =
-    accepts-stops _ _ c.stand-standing.result c.stand-standing.ensures (passes (goal.at.returns-in-Refused c).Else-not-is_done) _ c.loop-k.k c.loop-k.invariant _ (search rules)
+    accepts-stops _ _ c.stand-standing.result c.stand-standing.ensures (passes (goal.at.returns-in-Refused c).Else-not-is_done) _ c.loop-k.k
+    c.loop-k.invariant _ (search rules)
     (sym c.decode-decoded.ensures ∙ c.in-Refused.is)
 
 pub loop-k-preserved : goal.loop-k-preserved
@@ -31,4 +32,5 @@ loop-k-preserved c =
 
 pub returns : goal.returns
 returns c =
-    accepts-all _ _ c.stand-standing.result c.stand-standing.ensures (passes (goal.at.returns c).Else-not-is_done) _ c.loop-k.k c.loop-k.invariant c.loop-k-test.false
+    accepts-all _ _ c.stand-standing.result c.stand-standing.ensures (passes (goal.at.returns c).Else-not-is_done) _ c.loop-k.k c.loop-k.invariant
+    c.loop-k-test.false

@@ -9,7 +9,10 @@ loop-i-init c = (refl, run-start _ _ _)
 
 pub enter-progress-requires : goal.enter-progress-requires
 enter-progress-requires c =
-    record { sizes = (rw c.loop-i.invariant.0 c.requires.sizes.0, c.requires.sizes.1, c.requires.positions c.loop-i.i c.loop-i-test.true); runs = c.requires.runs }
+    record {
+      sizes = (rw c.loop-i.invariant.0 c.requires.sizes.0, c.requires.sizes.1, c.requires.positions c.loop-i.i c.loop-i-test.true);
+      runs = c.requires.runs;
+    }
 
 pub loop-i-preserved : goal.loop-i-preserved
 loop-i-preserved c =

@@ -9,7 +9,8 @@ use Rattle.queue.proofs.runs.walk.Given as goal
 
 abbrev pub invariant-loop-i : goal.invariant-loop-i
 invariant-loop-i l = (l.progress.control.vlr ≡ l.initial.progress.control.vlr)
-    × RunInv (act_by l.program l.scalars) l.list (under_way l.initial.elements l.initial.marks l.initial.progress) (under_way l.elements l.marks l.progress) l.i
+    × RunInv (act_by l.program l.scalars) l.list (under_way l.initial.elements l.initial.marks l.initial.progress)
+    (under_way l.elements l.marks l.progress) l.i
 
 abbrev pub decreases-loop-i : goal.decreases-loop-i
 decreases-loop-i l = length l.list - l.i
