@@ -1,18 +1,18 @@
 -- Document 01, "Control moves": VLR, VCR and each half of VMR are read and written by calls of their own; VAER and VPSR are read, VPSR is written.
 -- Order of checks: 12, 3, 11. VPSR and VAER are read even when disabled, and a VPSR write is never refused as disabled.
-use Rattle.std.specs.Prelude.{Bool, true, ◌&&◌, ◌||◌, ℕ, ◌+◌, ◌*◌, ◌/◌, ◌%◌, ◌^◌, leb, eqb}
+use Rattle.std.specs.Prelude.{Bool, true, ◌&&◌, ◌||◌, ℕ, ◌+◌, ◌*◌, ◌/◌, ◌%◌, ◌^◌, leb, eqb, Ok, Err}
 use Rattle.numbers.specs.Choice.{pick}
 use Rattle.numbers.specs.Bits.{bit, without_bit}
 use Rattle.numbers.specs.Halves.{low, high, with_low, with_high}
 use Rattle.state.specs.declared.Control.{Control}
-use Rattle.state.specs.declared.answer.Answer.{Answer}
-use Rattle.state.specs.declared.answer.Answer.TheVariants.{Done, Disabled, ValueRefused, OutOfRange}
+use Rattle.state.specs.Answer.{Answer}
+use Rattle.state.specs.declared.answer.Refusal.TheVariants.{Disabled, ValueRefused, OutOfRange}
 use Rattle.state.specs.Outcome.{Outcome, outcome, refused}
 use Rattle.state.specs.State.{with_vlr, with_vmr, with_vcr, with_vaer, with_vpsr, in_range, enabled, length_in_range}
 
 -- ---- reading a value: refused where the move is not allowed in the processor's present state
 unfoldable pub read_when : Bool → Control → ℕ → Answer
-read_when allowed c v = pick (in_range c) (pick allowed (Done v) Disabled) OutOfRange
+read_when allowed c v = pick (in_range c) (pick allowed (Ok v) (Err Disabled)) (Err OutOfRange)
 
 abbrev pub read_enabled : Control → ℕ → Answer
 read_enabled c v = read_when (enabled c) c v
@@ -40,9 +40,9 @@ unfoldable pub write_when : Bool → Bool → Control → Control → Outcome Co
 write_when allowed accepted c next =
     pick (in_range c)
     (pick allowed
-    (pick accepted (outcome (Done 0) next) (refused ValueRefused c))
-    (refused Disabled c))
-    (refused OutOfRange c)
+    (pick accepted (outcome (Ok 0) next) (refused (Err ValueRefused) c))
+    (refused (Err Disabled) c))
+    (refused (Err OutOfRange) c)
 
 abbrev pub write_enabled : Bool → Control → Control → Outcome Control
 write_enabled accepted c next = write_when (enabled c) accepted c next

@@ -2,26 +2,25 @@
 #![tactic(auto)]
 
 ghost use Rattle.std.specs.Prelude.{◌≡◌};
-ghost use Rattle.state.specs.Outcome.{outcome};
+ghost use Rattle.state.specs.Outcome.{ended};
 ghost use Rattle.control.specs.Moves.{read_when, read_enabled, write_when, write_enabled, vlr_read, vcr_read, vmr_low_read, vmr_high_read, vaer_read, vpsr_read, vlr_written, vcr_written, vmr_low_written, vmr_high_written, vpsr_accepted, with_status, after_reset, after_aex, after_ven, vpsr_taken, vpsr_written};
 
 use numbers::halves;
-use state::answer::{Answer, Ended};
-use state::{Control, answer};
+use state::Control;
+use state::answer::{Answer, Refusal};
 
 // A read, refused where the processor's present state does not allow it.
+#[tactic(auto, unfolding(crate::specs::Moves::read_when))]
 fn read_when(readable: bool, control: Control, value: u64) -> Answer
     ensures { result ≡ read_when readable control value }
 {
-    if state::in_range(control) {
-        if readable {
-            Answer::Done(value)
-        } else {
-            Answer::Disabled
-        }
-    } else {
-        Answer::OutOfRange
+    if !state::in_range(control) {
+        return Err(Refusal::OutOfRange);
     }
+    if !readable {
+        return Err(Refusal::Disabled);
+    }
+    Ok(value)
 }
 
 // A read that is refused while the processor is disabled.
@@ -69,65 +68,67 @@ pub fn read_vpsr(control: Control) -> Answer
 
 // A write: next takes the place of control, unless the processor's present state does not allow it
 // or the value is refused.
-fn write_when(writable: bool, accepted: bool, control: Control, next: Control) -> Ended
-    ensures { outcome result.answer result.control ≡ write_when writable accepted control next }
+#[tactic(auto, unfolding(crate::specs::Moves::write_when, state::specs::Outcome::after_refusal))]
+fn write_when(
+    writable: bool,
+    accepted: bool,
+    control: Control,
+    next: Control,
+) -> Result<Control, Refusal>
+    ensures { ended control result ≡ write_when writable accepted control next }
 {
-    if state::in_range(control) {
-        if writable {
-            if accepted {
-                Ended {
-                    answer: Answer::Done(0),
-                    control: next,
-                }
-            } else {
-                answer::refused(Answer::ValueRefused, control)
-            }
-        } else {
-            answer::refused(Answer::Disabled, control)
-        }
-    } else {
-        answer::refused(Answer::OutOfRange, control)
+    if !state::in_range(control) {
+        return Err(Refusal::OutOfRange);
     }
+    if !writable {
+        return Err(Refusal::Disabled);
+    }
+    if !accepted {
+        return Err(Refusal::ValueRefused);
+    }
+    Ok(next)
 }
 
 // A write that is refused while the processor is disabled.
-fn write_enabled(accepted: bool, control: Control, next: Control) -> Ended
-    ensures { outcome result.answer result.control ≡ write_enabled accepted control next }
+fn write_enabled(accepted: bool, control: Control, next: Control) -> Result<Control, Refusal>
+    ensures { ended control result ≡ write_enabled accepted control next }
 {
     write_when(state::enabled(control), accepted, control, next)
 }
 
 // The values of VLR and VCR come in as wide as the record keeps them, so that they are tested before
 // anything is cut off.
-pub fn write_vlr(control: Control, vlr: u64) -> Ended
-    ensures { outcome result.answer result.control ≡ vlr_written control vlr }
+pub fn write_vlr(control: Control, vlr: u64) -> Result<Control, Refusal>
+    ensures { ended control result ≡ vlr_written control vlr }
 {
-    let mut next = control;
-    next.vlr = vlr;
+    let next = Control { vlr, ..control };
     write_enabled(state::length_in_range(vlr), control, next)
 }
 
-pub fn write_vcr(control: Control, vcr: u64) -> Ended
-    ensures { outcome result.answer result.control ≡ vcr_written control vcr }
+pub fn write_vcr(control: Control, vcr: u64) -> Result<Control, Refusal>
+    ensures { ended control result ≡ vcr_written control vcr }
 {
-    let mut next = control;
-    next.vcr = vcr;
+    let next = Control { vcr, ..control };
     write_enabled(state::length_in_range(vcr), control, next)
 }
 
-pub fn write_vmr_low(control: Control, value: u32) -> Ended
-    ensures { outcome result.answer result.control ≡ vmr_low_written control value }
+pub fn write_vmr_low(control: Control, value: u32) -> Result<Control, Refusal>
+    ensures { ended control result ≡ vmr_low_written control value }
 {
-    let mut next = control;
-    next.vmr = halves::with_low(control.vmr, value);
+    let next = Control {
+        vmr: halves::with_low(control.vmr, value),
+        ..control
+    };
     write_enabled(true, control, next)
 }
 
-pub fn write_vmr_high(control: Control, value: u32) -> Ended
-    ensures { outcome result.answer result.control ≡ vmr_high_written control value }
+pub fn write_vmr_high(control: Control, value: u32) -> Result<Control, Refusal>
+    ensures { ended control result ≡ vmr_high_written control value }
 {
-    let mut next = control;
-    next.vmr = halves::with_high(control.vmr, value);
+    let next = Control {
+        vmr: halves::with_high(control.vmr, value),
+        ..control
+    };
     write_enabled(true, control, next)
 }
 
@@ -146,10 +147,11 @@ fn vpsr_accepted(v: u64) -> bool
 fn with_status(control: Control, vaer: u64, vpsr: u64) -> Control
     ensures { result ≡ with_status control vaer vpsr }
 {
-    let mut next = control;
-    next.vaer = vaer;
-    next.vpsr = vpsr;
-    next
+    Control {
+        vaer,
+        vpsr,
+        ..control
+    }
 }
 
 // A one in bit 1 resets.
@@ -183,14 +185,15 @@ fn after_ven(control: Control, v: u64) -> Control
 }
 
 // The record once VPSR has taken a value.
+#[tactic(auto, unfolding(crate::specs::Moves::vpsr_taken))]
 fn vpsr_taken(control: Control, v: u64) -> Control
     ensures { result ≡ vpsr_taken control v }
 {
     after_ven(after_aex(after_reset(control, v), v), v)
 }
 
-pub fn write_vpsr(control: Control, value: u32) -> Ended
-    ensures { outcome result.answer result.control ≡ vpsr_written control value }
+pub fn write_vpsr(control: Control, value: u32) -> Result<Control, Refusal>
+    ensures { ended control result ≡ vpsr_written control value }
 {
     let v = value as u64;
     write_when(true, vpsr_accepted(v), control, vpsr_taken(control, v))

@@ -9,7 +9,7 @@ use lib.Bits.{or_zero_r}
 use lib.ListN.{length}
 use lib.Seq.{get_or-set_same, get_or-set_other}
 use Rattle.numbers.specs.Halves.{low, with_low}
-use Rattle.numbers.proofs.Tests.{pick_true, below_or_not}
+use Rattle.numbers.proofs.Tests.{below_or_not}
 use Rattle.state.specs.Marks.{Marked}
 use Rattle.state.specs.State.{place_of}
 use Rattle.state.specs.Elements.{at, matches}
@@ -40,8 +40,7 @@ module _ (vmr : ℕ) (mtf : Bool) (stride vc : ℕ) (l : List ℕ) (register : v
     passes m e h = still (on e (let k : e < matching vmr mtf n + 0 = rw m at h in omega arith))
       where
         still : Turn n e → Turn (suc n) e
-        still t =
-            record { i = t.i; before = let b = t.before in omega arith; match = t.match; counted = t.counted; gets = rw m t.gets }
+        still t = grind arith
 
     -- the turn of mask bit n
     takes : matches vmr mtf n ≡ true → (e : ℕ) → e < matching vmr mtf (suc n) → Turn (suc n) e
@@ -84,8 +83,7 @@ module _ (vmr : ℕ) (mtf : Bool) (stride vc : ℕ) (l : List ℕ) (register : v
   turns (suc n) few e h = by (matches vmr mtf n) refl (turns n (omega arith))
     where
       by : (t : Bool) → matches vmr mtf n ≡ t → ((f : ℕ) → f < matching vmr mtf n → Turn n f) → Turn (suc n) e
-      by true m on = takes n few on m e h
-      by false m on = passes n few on m e h
+      by t m on = grind (arith, takes, passes)
 
 module _ (ins : Instruction) (scalar : ℕ) (b : Marked) (fields : Below ins) (count : length b.state.elements ≡ 1024) (alone : in_one_step ins ≡ true)
     (few : b.state.control.vlr ≤ 64) where
@@ -122,7 +120,7 @@ module _ (ins : Instruction) (scalar : ℕ) (b : Marked) (fields : Below ins) (c
 
   one-step : steps_below 1 ins scalar (begun b) ≡ last
   unfolding steps_below step_of
-  one-step = pick_true (in_one_step ins) _ _ alone
+  one-step = grind arith
 
   pub leaves : Counted ins scalar b.state (instruction_done ins scalar b).state
   unfolding instruction_done whole_of

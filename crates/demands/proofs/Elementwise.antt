@@ -1,41 +1,40 @@
 -- What a register instruction that works element by element leaves, from its entry state: by induction over its steps, each of which reads and writes its
 -- own element alone. Assumes nothing.
-use mathlib.Core.Bool.{Bool, beq, true, false, not, ◌&&◌, ◌||◌}
+use mathlib.Core.Bool.{Bool, beq, true, false, not, ◌&&◌}
 use mathlib.Core.Path.{◌≡◌, refl, sym, ap, ap₂, ◌∙◌}
 use Prim.Native.Nat.{ℕ, zero, suc, ◌%◌, ◌≤◌, ◌<◌}
-use native.Mathlib.Nat.{mod-lt}
 use native.Mathlib.Omega.{arith}
 use lib.Bits.{bit_or, or_zero_l, or_zero_r}
-use lib.Dec.{ltb, eqb}
+use lib.Dec.{eqb}
 use lib.ListN.{length, length-set, set}
 use Rattle.numbers.specs.Bits.{bit, with_bit}
 use Rattle.numbers.specs.Choice.{pick}
 use Rattle.numbers.proofs.BitLaws.{bit-replaced, bit_kept, dec_eq}
-use Rattle.numbers.proofs.Tests.{pick_true, pick-false}
+use Rattle.numbers.proofs.Tests.{pick-false}
 use Rattle.numbers.proofs.Unions.{chosen_below, chosen-bits}
 use Rattle.state.specs.Marks.{Marked, also_marked, one_element}
 use Rattle.state.specs.State.{State, state, place_of, with_vmr, vpsr_in_range}
 use Rattle.state.specs.Elements.{at}
 use Rattle.opcodes.specs.declared.Instruction.{Instruction}
-use Rattle.opcodes.specs.Opcodes.{work_at, writes_mask, ignores_moe, reads_va, reads_vb, in_one_step}
+use Rattle.opcodes.specs.Opcodes.{writes_mask, ignores_moe, reads_va, reads_vb, in_one_step}
 use Rattle.opcodes.specs.ControlWord.{field_of}
 use Rattle.opcodes.specs.Masking.{operated}
 use Rattle.opcodes.specs.Working.{Below}
 use Rattle.element.specs.declared.Out.{Out}
 use Rattle.element.specs.Receives.{result_of}
 use Rattle.machine.specs.Run.{Gathered, Added, Run, run, added, joined, begun, finished}
-use Rattle.machine.specs.Step.{received, register_bit, notes, written, wrote_at, adding, worked, element_step}
+use Rattle.machine.specs.Step.{received, register_bit, notes, written, wrote_at, worked, element_step}
 use Rattle.machine.specs.Instruction.{step_of, steps_below, whole_of, instruction_done}
 use Rattle.machine.proofs.Gather.{joined-nothing, joined-twice}
 use Rattle.demands.proofs.Ending.{RunEnd, ends-run, halts}
 use Rattle.demands.proofs.Placing.{places-next}
-use Rattle.demands.proofs.Coming.{and_none, and-twice, come, come-not, come-first, come-before, come-now, come-same}
+use Rattle.demands.proofs.Coming.{come, come-first, come-before, come-now, come-same}
 use Rattle.demands.specs.Two.{receives, recorded_below, recorded_by, ElementByElement}
 
 -- what a work makes of the mask bit and the elements that it is handed
 abbrev made : Instruction → ℕ → Bool → ℕ → ℕ → ℕ → Out
 made ins scalar b x y z =
-    result_of (work_at ins.work) ins.exc (field_of ins) (pick (ignores_moe ins) (beq b ins.mtf) false)
+    result_of ins.work ins.exc (field_of ins) (pick (ignores_moe ins) (beq b ins.mtf) false)
     (pick ins.scalar scalar (pick (reads_va ins) x 0))
     (pick (reads_vb ins) y 0)
     (pick (writes_mask ins) 0 z)
@@ -60,11 +59,10 @@ module _ (ins : Instruction) (scalar : ℕ) (first : Run) (fields : Below ins) w
   wrote n p i = not (writes_mask ins) && eqb p ins.vc.0 && come on n i
 
   unwritten : (n p i : ℕ) → come on n i ≡ false → wrote n p i ≡ false
-  unwritten n p i e =
-      ap (λ (t : Bool). (not (writes_mask ins) && eqb p ins.vc.0) && t) e ∙ and_none (not (writes_mask ins) && eqb p ins.vc.0)
+  unwritten n p i e = grind arith
 
   unmarked : (n i : ℕ) → come on n i ≡ false → (writes_mask ins && come on n i) ≡ false
-  unmarked n i e = ap (λ (t : Bool). writes_mask ins && t) e ∙ and_none (writes_mask ins)
+  unmarked n i e = grind arith
 
   -- the elements of Vc that are written, and the set of those that the steps below n write
   abbrev written_on : ℕ → Bool
@@ -75,14 +73,10 @@ module _ (ins : Instruction) (scalar : ℕ) (first : Run) (fields : Below ins) w
 
   -- what a step that is operated on marks
   marks-one : (n : ℕ) → on n ≡ true → pick (written_on n) (one_element n) 0 ≡ wrote_at ins n
-  marks-one n e = rw e (by (writes_mask ins))
-    where
-      by : (m : Bool) → pick (not m && true) (one_element n) 0 ≡ pick m 0 (one_element n)
-      by true = refl
-      by false = refl
+  marks-one n e = grind arith
 
   marks-no : (n : ℕ) → on n ≡ false → written_on n ≡ false
-  marks-no n e = ap (λ (t : Bool). not (writes_mask ins) && t) e ∙ and_none (not (writes_mask ins))
+  marks-no n e = grind arith
 
   -- after the steps below n
   record Upto (n : ℕ) (r : Run) : Type 0 where
@@ -98,19 +92,18 @@ module _ (ins : Instruction) (scalar : ℕ) (first : Run) (fields : Below ins) w
   -- ---- one step more
   module _ (n : ℕ) (small : n < 64) (r : Run) (u : Upto n r) where
     own-element : (p : ℕ) → p < 16 → at r.elements p n ≡ at s.elements p n
-    own-element p h = u.elements p n h small ∙ pick-false (wrote n p n) _ _ (unwritten n p n (come-not on n))
+    own-element p h = grind arith
 
     own-bit : bit r.control.vmr n ≡ bit s.control.vmr n
-    own-bit = u.mask n ∙ pick-false (writes_mask ins && come on n n) _ _ (unmarked n n (come-not on n))
+    own-bit = grind arith
 
     same-on : operated ins r.control n ≡ on n
     unfolding operated
-    same-on = ap₂ (λ (v : ℕ) (b : Bool). ltb n v && (not ins.moe || ignores_moe ins || beq b ins.mtf)) u.vlr own-bit
+    same-on = grind arith
 
     same_received : received ins scalar n r ≡ receives ins scalar s n
     unfolding received
-    same_received =
-        made-same ins scalar own-bit (own-element ins.va.0 fields.va) (own-element ins.vb.0 fields.vb) (own-element ins.vc.0 fields.vc)
+    same_received = grind (arith, made-same, own-bit, own-element)
 
     -- it is not operated on
     idle : on n ≡ false → Upto (suc n) r
@@ -141,12 +134,7 @@ module _ (ins : Instruction) (scalar : ℕ) (first : Run) (fields : Below ins) w
 
       joins : joined r.gathered joining ≡ joined first.gathered (added (recorded_below (suc n) ins scalar s) ins.vc.0 (marked_below (suc n)))
       unfolding recorded_below chosen_below
-      joins =
-          ap (λ (g : Gathered). joined g joining) u.gathered
-          ∙ joined-twice first.gathered (recorded_below n ins scalar s) adds ins.vc.0 (marked_below n) (wrote_at ins n)
-          ∙ sym (ap₂ (λ (x y : ℕ). joined first.gathered (added x ins.vc.0 y))
-          (ap (bit_or (recorded_below n ins scalar s)) (pick_true (on n) adds 0 e))
-          (ap (bit_or (marked_below n)) (marks-one n e)))
+      joins = grind (arith, joined-twice, marks-one)
 
       masks : writes_mask ins ≡ true
           → Upto (suc n) (run r.elements (with_vmr r.control (with_bit r.control.vmr n (value n % 2))) (joined r.gathered joining))
@@ -167,12 +155,7 @@ module _ (ins : Instruction) (scalar : ℕ) (first : Run) (fields : Below ins) w
           at-bit : (i : ℕ) → Dec (i ≡ n)
               → bit (with_bit r.control.vmr n (value n % 2)) i
               ≡ pick (writes_mask ins && come on (suc n) i) (eqb (value i % 2) 1) (bit s.control.vmr i)
-          at-bit i (yes h) =
-              rw h (bit-replaced r.control.vmr n (value n % 2) (mod-lt (value n) (omega arith))
-              ∙ sym (pick_true (writes_mask ins && come on (suc n) n) _ _ (ap₂ (λ (a b : Bool). a && b) m (come-now on n ∙ e))))
-          at-bit i (no h) =
-              bit_kept r.control.vmr n (value n % 2) (mod-lt (value n) (omega arith)) i h ∙ u.mask i
-              ∙ ap (λ (t : Bool). pick (writes_mask ins && t) (eqb (value i % 2) 1) (bit s.control.vmr i)) (sym (come-before on n i h))
+          at-bit i x = grind (arith, bit-replaced, come-now, bit_kept, come-before)
 
       stores : writes_mask ins ≡ false
           → Upto (suc n) (run (set r.elements (place_of ins.vc.0 n) (value n)) r.control (joined r.gathered joining))
@@ -195,27 +178,15 @@ module _ (ins : Instruction) (scalar : ℕ) (first : Run) (fields : Below ins) w
 
           in-register : (k p i : ℕ) → pick (wrote k p i) (value i) (at s.elements p i)
               ≡ pick (eqb p ins.vc.0 && come on k i) (value i) (at s.elements p i)
-          in-register k p i = ap (λ (t : Bool). pick (not t && eqb p ins.vc.0 && come on k i) (value i) (at s.elements p i)) m
+          in-register k p i = grind arith
 
       works : Upto (suc n) (worked ins scalar n r)
       unfolding worked written
-      works = rw same_received (by (writes_mask ins) refl)
-        where
-          by : (m : Bool) → writes_mask ins ≡ m
-              → Upto (suc n) (adding joining
-              (pick m
-              (run r.elements (with_vmr r.control (with_bit r.control.vmr n (value n % 2))) r.gathered)
-              (run (set r.elements (place_of ins.vc.0 n) (value n)) r.control r.gathered)))
-          by true m = masks m
-          by false m = stores m
+      works = grind (arith, same_received, masks, stores)
 
     stepped : Upto (suc n) (element_step ins scalar n r)
     unfolding element_step
-    stepped = rw same-on (by (on n) refl)
-      where
-        by : (t : Bool) → on n ≡ t → Upto (suc n) (pick t (worked ins scalar n r) r)
-        by true e = works e
-        by false e = idle e
+    stepped = grind (arith, same-on, works, idle)
 
   -- ---- all of them
   module _ (count : length s.elements ≡ 1024) (alone : in_one_step ins ≡ false) where
@@ -247,7 +218,7 @@ module _ (ins : Instruction) (scalar : ℕ) (first : Run) (fields : Below ins) w
 
       every : (i : ℕ) → come on s.control.vlr i ≡ on i
       unfolding operated
-      every i = and-twice (ltb i s.control.vlr) _
+      every i = grind arith
 
       is_last : whole_of ins scalar first ≡ last
       unfolding whole_of
@@ -256,13 +227,7 @@ module _ (ins : Instruction) (scalar : ℕ) (first : Run) (fields : Below ins) w
       -- its marks: of Vc those of the operated elements, unless it writes mask bits
       pub marks-added : (i : ℕ) → bit (chosen_below written_on s.control.vlr) i ≡ written_on i
       unfolding operated
-      marks-added i = chosen-bits written_on s.control.vlr i ∙ by (not (writes_mask ins)) (ltb i s.control.vlr) _
-        where
-          by : (m a t : Bool) → (a && (m && (a && t))) ≡ (m && (a && t))
-          by true true t = refl
-          by true false t = refl
-          by false true t = refl
-          by false false t = refl
+      marks-added i = grind (arith, chosen-bits)
 
       -- and the elements that it does not write are as they were
       pub whole-kept : (p i : ℕ) → p < 16 → i < 64 → (eqb p ins.vc.0 && written_on i) ≡ false
@@ -274,9 +239,7 @@ module _ (ins : Instruction) (scalar : ℕ) (first : Run) (fields : Below ins) w
           (ap (λ (t : Bool). not (writes_mask ins) && eqb p ins.vc.0 && t) (every i) ∙ turned (not (writes_mask ins)) (eqb p ins.vc.0) (on i) ∙ e)
         where
           turned : (x y z : Bool) → (x && y && z) ≡ (y && (x && z))
-          turned true y z = refl
-          turned false true z = refl
-          turned false false z = refl
+          turned x y z = grind arith
 
       pub whole_long : length (whole_of ins scalar first).elements ≡ 1024
       whole_long = ap (λ (r : Run). length r.elements) is_last ∙ all.long
@@ -323,4 +286,4 @@ module _ (ins : Instruction) (scalar : ℕ) (b : Marked) (fields : Below ins) (c
 
   pub leaves : ElementByElement ins scalar b.state (instruction_done ins scalar b).state
   unfolding instruction_done
-  leaves = rw (is_last ins scalar (begun b) fields count alone few) ends
+  leaves = grind (arith, is_last, ends)

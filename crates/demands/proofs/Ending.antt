@@ -1,12 +1,12 @@
 -- The control numbers at the end of a run. Assumes nothing.
-use mathlib.Core.Bool.{Bool, true, false, not}
-use mathlib.Core.Path.{◌≡◌, refl}
+use native.Mathlib.Omega.{arith}
+use mathlib.Core.Bool.{Bool, true, not}
+use mathlib.Core.Path.{◌≡◌}
 use Prim.Native.Nat.{ℕ}
 use lib.Bits.{bit_or}
 use Rattle.numbers.specs.Bits.{with_bit}
 use Rattle.numbers.specs.Choice.{pick}
 use Rattle.state.specs.State.{vpsr_in_range}
-use Rattle.state.proofs.Ranges.{stopped as stopped-status}
 use Rattle.state.specs.declared.Control.{Control}
 use Rattle.machine.specs.Run.{Run, ended, finished}
 
@@ -23,13 +23,8 @@ pub record RunEnd (r : Run) : Type 0 where
 
 pub ends-run : (r : Run) → RunEnd r
 unfolding ended
-ends-run r = by r.gathered.recorded refl
-  where
-    by : (t : Bool) → r.gathered.recorded ≡ t → RunEnd r
-    by true e = record { vlr = rw e refl; vmr = rw e refl; vcr = rw e refl; vaer = rw e refl; vpsr = rw e refl }
-    by false e = record { vlr = rw e refl; vmr = rw e refl; vcr = rw e refl; vaer = rw e refl; vpsr = rw e refl }
+ends-run r = grind arith
 
 -- VEN cleared and AEX set, of a VPSR in range
 pub halts : (v : ℕ) → vpsr_in_range v ≡ true → (t : Bool) → pick (not t) (with_bit (with_bit v 0 0) 7 1) v ≡ pick t v 0x80
-halts v ranged true = refl
-halts v ranged false = stopped-status v ranged
+halts v ranged t = grind arith

@@ -1,6 +1,7 @@
 -- While a run goes on VAER and VPSR stay, and the bit beside the state says whether VAER is to get anything. Assumes nothing.
-use mathlib.Core.Bool.{Bool, true, false, not, ◌||◌}
-use mathlib.Core.Path.{◌≡◌, ap, ◌∙◌}
+use native.Mathlib.Omega.{arith}
+use mathlib.Core.Bool.{Bool, true, false, not}
+use mathlib.Core.Path.{◌≡◌}
 use Prim.Native.Nat.{ℕ, zero, suc, ◌%◌}
 use lib.Dec.{eqb}
 use lib.ListN.{set}
@@ -24,7 +25,7 @@ Noted g = g.recorded ≡ not (eqb g.vaer 0)
 
 joined-noted : (g : Gathered) (a : Added) → Noted g → Noted (joined g a)
 unfolding joined
-joined-noted g a e = ap (λ (t : Bool). t || not (eqb a.notes 0)) e ∙ some_or g.vaer a.notes
+joined-noted g a e = grind (arith, some_or)
 
 -- a run under way that began with this control record
 pub record Going (c : Control) (r : Run) : Type 0 where
@@ -34,8 +35,7 @@ pub record Going (c : Control) (r : Run) : Type 0 where
 
 module _ (c : Control) where
   either : (t : Bool) (a b : Run) → Going c a → Going c b → Going c (pick t a b)
-  either true a b p q = p
-  either false a b p q = q
+  either t a b p q = grind arith
 
   module _ (ins : Instruction) (scalar : ℕ) where
     worked-on : (i : ℕ) (r : Run) → Going c r → Going c (worked ins scalar i r)

@@ -1,31 +1,40 @@
 -- A refused call leaves what it was handed: laws of outcomes. Assumes nothing.
+use Rattle.std.specs.Prelude.{Ok}
 use mathlib.Core.Bool.{Bool, true, false}
 use mathlib.Core.Path.{◌≡◌, refl}
 use mathlib.Core.List.{List}
-use Prim.Native.Nat.{ℕ}
+use Prim.Native.Nat.{ℕ, ◌≤◌}
 use native.Mathlib.Omega.{arith}
 use Rattle.numbers.specs.Choice.{pick}
 use Rattle.state.specs.declared.Control.{Control}
-use Rattle.state.specs.declared.answer.Answer.{Answer}
-use Rattle.state.specs.declared.answer.Answer.TheVariants.{Done}
-use Rattle.state.specs.Answer.{is_done}
+use Rattle.state.specs.Answer.{Answer, number_of, is_done}
 use Rattle.state.specs.Marks.{Marked}
 use Rattle.state.specs.Outcome.{Outcome, outcome, after_refusal, refused, refused_state, refused_marked, refused_window}
 use Rattle.state.specs.State.{State}
 
+-- ---- the numbers: 0 is what is done, and 1 to 13 are refusals
+pub numbered : (a : Answer) → number_of a ≤ 13
+numbered a = grind arith
+
+pub zero-done : (a : Answer) → number_of a ≡ 0 → is_done a ≡ true
+zero-done a z = grind arith
+
+pub not-done : (a : Answer) → (number_of a ≡ 0 → ⊥) → is_done a ≡ false
+not-done a n = grind arith
+
+-- ---- what a refused call leaves
 pub record Keeps {A : Type 0} (o : Outcome A) (x : A) : Type 0 where
   pub kept : is_done o.answer ≡ false → o.left ≡ x
 
 -- nothing is said of what is done
-pub done-keeps : {A : Type 0} (v : ℕ) (y x : A) → Keeps (outcome (Done v) y) x
-done-keeps v y x = record { kept = λ e. let z : ◌≡◌ {A = ℕ} 0 1 = cc in absurd (omega arith) }
+pub done-keeps : {A : Type 0} (v : ℕ) (y x : A) → Keeps (outcome (Ok v) y) x
+done-keeps v y x = record { kept = λ e. cc }
 
 pub same-keeps : {A : Type 0} (a : Answer) (x : A) → Keeps (outcome a x) x
 same-keeps a x = record { kept = λ e. refl }
 
 pub either-keeps : {A : Type 0} (b : Bool) {o p : Outcome A} {x : A} → Keeps o x → Keeps p x → Keeps (pick b o p) x
-either-keeps true k m = k
-either-keeps false k m = m
+either-keeps x k m = grind arith
 
 pub refused-keeps : (a : Answer) (c : Control) → Keeps (refused a c) c
 unfolding after_refusal

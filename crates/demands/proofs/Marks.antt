@@ -1,37 +1,31 @@
 -- THE MARKS, two theorems over any sequence of calls: `exactly`, from new marks a bit is one exactly when the element was written since the last clear; and
 -- `redraw`, an element whose mark is zero is as it was. Assumes nothing.
+use Rattle.std.specs.Prelude.{Ok, Err}
 use mathlib.Core.Bool.{Bool, true, false}
 use mathlib.Core.List.{List, [], ◌∷◌}
 use mathlib.Core.Logic.{◌⊎◌, ◌↔◌, inl, inr}
 use mathlib.Core.Path.{◌≡◌, refl, sym, ap, subst, ◌∙◌}
 use Prim.Native.Nat.{ℕ, ◌<◌}
 use native.Mathlib.Omega.{arith}
-use borrow.Author.Tests.{eq-eqb, lt-ltb}
+use borrow.Author.Tests.{lt-ltb}
 use lib.ListN.{length, length-replicate, get_or-replicate}
 use Rattle.numbers.specs.Bits.{bit}
 use Rattle.numbers.specs.Choice.{pick}
-use Rattle.numbers.proofs.BitLaws.{dec_eq}
-use Rattle.numbers.proofs.Sets.{bit-none}
 use Rattle.numbers.proofs.Tests.{pick_true, true-not-false}
 use Rattle.numbers.proofs.Unions.{first-bits}
 use Rattle.state.specs.Answer.{number_of, is_done}
 use Rattle.state.specs.Elements.{at}
 use Rattle.state.specs.Marks.{Marked, first_elements, no_marks, all_marks}
-use Rattle.state.specs.declared.answer.Answer.TheVariants.{Done, BadFile}
+use Rattle.state.specs.declared.answer.Refusal.TheVariants.{BadFile}
 use Rattle.state.specs.Outcome.{Outcome, outcome, refused_state, refused_marked}
-use Rattle.state.specs.State.{State, state}
-use Rattle.memory.specs.Works.{is_store}
+use Rattle.state.specs.State.{state}
 use Rattle.opcodes.specs.declared.Instruction.{Instruction}
-use Rattle.opcodes.specs.declared.Decoded.TheVariants.{Accepted}
-use Rattle.opcodes.specs.Opcodes.{is_memory, in_one_step}
 use Rattle.opcodes.specs.Decoding.{decoded_of}
 use Rattle.machine.specs.Run.{Run, begun}
 use Rattle.execute.specs.Execute.{executed_of}
-use Rattle.order.specs.declared.Verdict.{Verdict}
-use Rattle.order.specs.declared.Verdict.TheVariants as verdict
-use Rattle.touch.specs.Parts.{Queue, size, instruction_or}
+use Rattle.touch.specs.Parts.{Queue, size}
 use Rattle.touch.specs.Touch.{act}
-use Rattle.order.specs.Order.{run as walk}
+use Rattle.order.specs.Order.{Verdict, run as walk}
 use Rattle.queue.specs.Queue.{acceptance, straight}
 use Rattle.queue.specs.Run.{ran_through, ran_by, queue_run, verdict_of, by_verdict, walked_run, ordered_run}
 use Rattle.queue.proofs.Calls.{fine-bounded}
@@ -44,9 +38,10 @@ use Rattle.demands.specs.Calls.{read_vlr, read_vcr, read_vmr_low, read_vmr_high,
 use Rattle.demands.specs.Calls.{execute, run, run_order, save, load, clear_marks, reading, list_state, list_file, list_answer, print_run, decode}
 use Rattle.demands.specs.Written.{wrote, mark_of}
 use Rattle.demands.specs.Two.{Leaves}
-use Rattle.demands.specs.Marks.{Kind, instruction, queued, listed, file, clear, nothing, kind_of, KindWrote}
+use Rattle.demands.specs.Marks.{instruction, nothing, kind_of, KindWrote}
 use Rattle.demands.specs.Marks.{Wrote, Clears, Sized, OneCall, Turn, handed, marks_after, after_all, NoClear, WrittenSince}
 use Rattle.demands.specs.Marks.{EachCall, AllSized, Exactly, Carried, carried, carrying, chained, Redraw}
+use Rattle.demands.proofs.Keeping.{zero-done}
 use Rattle.demands.proofs.One as one
 use Rattle.demands.proofs.Stepping.{or_split, or-one, Fit, Left, straight-left, walk-left}
 use Rattle.demands.proofs.Two as two
@@ -55,18 +50,7 @@ use Rattle.demands.proofs.Two as two
 -- that touches no mark and no element
 module _ (call : Call) (l : Lent) (s : Sized l) where
   quiet : kind_of call ≡ nothing → (called call l).1.elements ≡ l.elements → (called call l).1.marks ≡ l.marks → OneCall call l
-  quiet kind elements marks = record {
-    sized = record { elements = ap length elements ∙ s.elements; marks = ap length marks ∙ s.marks };
-    marks = λ r i a k. (
-      λ t. (λ c. subst Clears kind c, inl (ap (λ (m : List ℕ). mark_of m r i) (sym marks) ∙ t)),
-      λ w. by r i w.1,
-    );
-    kept = λ r i a b none. ap (λ (x : List ℕ). at x r i) elements;
-  }
-    where
-      by : (r i : ℕ) → (mark_of l.marks r i ≡ true) ⊎ Wrote call l r i → mark_of (called call l).1.marks r i ≡ true
-      by r i (inl t) = ap (λ (m : List ℕ). mark_of m r i) marks ∙ t
-      by r i (inr w) = absurd (subst (λ (k : Kind). KindWrote k l r i) kind w.1)
+  quiet kind elements marks = grind arith
 
   -- that is no clear: where it is refused nothing has changed
   module _ (no-clear : Clears (kind_of call) → ⊥) where
@@ -81,8 +65,7 @@ module _ (call : Call) (l : Lent) (s : Sized l) where
         same = (one.holds call l).kept n
 
         by : (r i : ℕ) → (mark_of l.marks r i ≡ true) ⊎ Wrote call l r i → mark_of (called call l).1.marks r i ≡ true
-        by r i (inl t) = ap (λ (x : Lent). mark_of x.marks r i) same ∙ t
-        by r i (inr w) = absurd (n w.0)
+        by r i x = grind (arith, same)
 
     -- and where it is done it marks what it wrote
     record Marking : Type 0 where
@@ -92,52 +75,26 @@ module _ (call : Call) (l : Lent) (s : Sized l) where
       kept : (r i : ℕ) → r < 16 → i < 64 → (KindWrote (kind_of call) l r i → ⊥) → at (called call l).1.elements r i ≡ at l.elements r i
 
     done : (called call l).0.0 ≡ 0 → Marking → OneCall call l
-    done n d = record {
-      sized = d.sized;
-      marks = λ r i a k. (λ t. (no-clear, there r i ((d.marks r i a k).0 t)), λ w. (d.marks r i a k).1 (back r i w.1));
-      kept = λ r i a b none. d.kept r i a b (λ w. none (n, w));
-    }
-      where
-        there : (r i : ℕ) → (mark_of l.marks r i ≡ true) ⊎ KindWrote (kind_of call) l r i → (mark_of l.marks r i ≡ true) ⊎ Wrote call l r i
-        there r i (inl t) = inl t
-        there r i (inr w) = inr (n, w)
-
-        back : (r i : ℕ) → (mark_of l.marks r i ≡ true) ⊎ Wrote call l r i → (mark_of l.marks r i ≡ true) ⊎ KindWrote (kind_of call) l r i
-        back r i (inl t) = inl t
-        back r i (inr w) = inr w.1
+    done n d = grind arith
 
     by_number : ((called call l).0.0 ≡ 0 → Marking) → OneCall call l
-    by_number d = by (dec_eq (called call l).0.0 0)
-      where
-        by : Dec ((called call l).0.0 ≡ 0) → OneCall call l
-        by (yes n) = done n (d n)
-        by (no n) = refused n
+    by_number d = grind (arith, done, refused)
 
 -- ---- one instruction
 module _ (opcode cntrl scalar base stride origin : ℕ) (l : Lent) (s : Sized l) where
   abbrev ended : Outcome (Marked × List ℕ)
   ended = executed_of (lent_marked l) opcode cntrl scalar base stride l.bytes origin
 
-  same-instruction : (i j : Instruction) → Accepted i ≡ Accepted j → i ≡ j
-  same-instruction i j e = ap (instruction_or i) e
-
   -- how many elements it leaves
   leaves-long : (ins : Instruction) → Leaves ins scalar base stride (lent_state l) l.bytes origin ended.left.0.state ended.left.1
       → length ended.left.0.state.elements ≡ 1024
-  leaves-long ins left = by (is_memory ins.work) refl (is_store ins.work) refl (in_one_step ins) refl
-    where
-      by : (t : Bool) → is_memory ins.work ≡ t → (u : Bool) → is_store ins.work ≡ u → (v : Bool) → in_one_step ins ≡ v
-          → length ended.left.0.state.elements ≡ 1024
-      by true m true e v o = ap (λ (x : State). length x.elements) (left.stores m e).state ∙ s.elements
-      by true m false e v o = (left.loads m e).count
-      by false m u e true o = (left.iota m o).0.count
-      by false m u e false o = (left.elementwise m o).0.count
+  leaves-long ins left = grind arith
 
   executes : number_of ended.answer ≡ 0 → Marking (execute opcode cntrl scalar base stride origin) l s (λ c. c)
   unfolding called executed
   executes n =
       let all = (two.holds).instruction (lent_marked l) opcode cntrl scalar base stride l.bytes origin in
-      let found = all.done.0 (eq-eqb (number_of ended.answer) 0 n) in
+      let found = all.done.0 (zero-done ended.answer n) in
       let ins : Instruction = found.0 in let a = found.1 in
       let after = all.marks s.elements s.marks ins a in
       record {
@@ -149,23 +106,19 @@ module _ (opcode cntrl scalar base stride origin : ℕ) (l : Lent) (s : Sized l)
         kept = λ r i h k none. all.kept s.elements ins a r i h k (not-wrote ins a.says r i none (wrote ins (lent_state l).control r i) refl);
       }
     where
-      there : (ins : Instruction) → decoded_of true false 0 opcode cntrl ≡ Accepted ins → (r i : ℕ)
+      there : (ins : Instruction) → decoded_of true false 0 opcode cntrl ≡ Ok ins → (r i : ℕ)
           → (mark_of l.marks r i ≡ true) ⊎ (wrote ins (lent_state l).control r i ≡ true)
           → (mark_of l.marks r i ≡ true) ⊎ KindWrote (instruction opcode cntrl) l r i
-      there ins says r i (inl t) = inl t
-      there ins says r i (inr w) = inr (ins, says, w)
+      there ins says r i x = grind arith
 
-      back : (ins : Instruction) → decoded_of true false 0 opcode cntrl ≡ Accepted ins → (r i : ℕ)
+      back : (ins : Instruction) → decoded_of true false 0 opcode cntrl ≡ Ok ins → (r i : ℕ)
           → (mark_of l.marks r i ≡ true) ⊎ KindWrote (instruction opcode cntrl) l r i
           → (mark_of l.marks r i ≡ true) ⊎ (wrote ins (lent_state l).control r i ≡ true)
-      back ins says r i (inl t) = inl t
-      back ins says r i (inr w) =
-          inr (ap (λ (x : Instruction). wrote x (lent_state l).control r i) (same-instruction ins w.0 (sym says ∙ w.1)) ∙ w.2)
+      back ins says r i x = grind arith
 
-      not-wrote : (ins : Instruction) → decoded_of true false 0 opcode cntrl ≡ Accepted ins → (r i : ℕ) → (KindWrote (instruction opcode cntrl) l r i → ⊥)
+      not-wrote : (ins : Instruction) → decoded_of true false 0 opcode cntrl ≡ Ok ins → (r i : ℕ) → (KindWrote (instruction opcode cntrl) l r i → ⊥)
           → (t : Bool) → wrote ins (lent_state l).control r i ≡ t → t ≡ false
-      not-wrote ins says r i none true e = absurd (none (ins, says, e))
-      not-wrote ins says r i none false e = refl
+      not-wrote ins says r i none t e = grind arith
 
 -- ---- a queue, straight through and by a list
 module _ (q : Queue) (l : Lent) (s : Sized l) where
@@ -173,47 +126,34 @@ module _ (q : Queue) (l : Lent) (s : Sized l) where
   b = lent_marked l
 
   starts_fit : is_done (acceptance b.state.control q) ≡ true → Fit (begun b)
-  starts_fit a = record { long = s.elements; few = (fine-bounded b.state.control q a).short; sixteen = s.marks }
+  starts_fit a = grind (arith, fine-bounded)
 
   -- what is left of a run, as the call leaves it
   module _ (call : Call) (no-clear : Clears (kind_of call) → ⊥) (r : Run)
       (elements : (called call l).1.elements ≡ r.elements) (marks : (called call l).1.marks ≡ r.gathered.marks)
       (d : Left (KindWrote (kind_of call) l) (begun b) r) where
     as-left : Marking call l s no-clear
-    as-left = record {
-      sized = record { elements = ap length elements ∙ d.fit.long; marks = ap length marks ∙ d.fit.sixteen };
-      marks = λ p i h k. (
-        λ t. (d.marks p i h).0 (ap (λ (m : List ℕ). mark_of m p i) (sym marks) ∙ t),
-        λ w. ap (λ (m : List ℕ). mark_of m p i) marks ∙ (d.marks p i h).1 w,
-      );
-      kept = λ p i h k none. ap (λ (x : List ℕ). at x p i) elements ∙ d.kept p i h k none;
-    }
+    as-left = grind arith
 
   -- the queue was accepted where the number is 0
   module _ (x : Outcome Marked) where
-    accepted-if : (t : Bool) → is_done (acceptance b.state.control q) ≡ t
-        → number_of (pick t x (refused_marked (acceptance b.state.control q) b)).answer ≡ 0 → t ≡ true
-    accepted-if true e n = refl
-    accepted-if false e n = sym e ∙ eq-eqb (number_of (acceptance b.state.control q)) 0 n
-
     was-accepted : number_of (pick (is_done (acceptance b.state.control q)) x (refused_marked (acceptance b.state.control q) b)).answer ≡ 0
         → is_done (acceptance b.state.control q) ≡ true
-    was-accepted n = accepted-if (is_done (acceptance b.state.control q)) refl n
+    was-accepted n = grind arith
 
   runs : number_of (queue_run q b).answer ≡ 0 → Marking (run q) l s (λ c. c)
   unfolding called left queue_run ran_through
   runs n =
-      let a = was-accepted (outcome (Done 0) (ran_through q b)) n in
-      let same = pick_true (is_done (acceptance b.state.control q)) (outcome (Done 0) (ran_through q b))
+      let a = was-accepted (outcome (Ok 0) (ran_through q b)) n in
+      let same = pick_true (is_done (acceptance b.state.control q)) (outcome (Ok 0) (ran_through q b))
       (refused_marked (acceptance b.state.control q) b) a in
       as-left (run q) (λ c. c) (straight q (size q) (begun b))
       (ap (λ (o : Outcome Marked). o.left.state.elements) same) (ap (λ (o : Outcome Marked). o.left.marks) same)
       (straight-left q (begun b) (starts_fit a) (size q))
 
   module _ (list : List ℕ) where
-    permitted-if : (v : Verdict) → number_of (by_verdict b (ran_by q list b) v).answer ≡ 0 → v ≡ verdict.Permitted
-    permitted-if verdict.Permitted n = refl
-    permitted-if (verdict.Refused place) n = absurd (omega arith)
+    permitted-if : (v : Verdict) → number_of (by_verdict b (ran_by q list b) v).answer ≡ 0 → v ≡ Ok tt
+    permitted-if v n = grind arith
 
     walks : number_of (ordered_run q list b).answer ≡ 0 → Marking (run_order q list) l s (λ c. c)
     unfolding called left walked_run ran_by
@@ -223,7 +163,7 @@ module _ (q : Queue) (l : Lent) (s : Sized l) where
         let a = was-accepted x walked in
         let same : walked_run q list b ≡ x = pick_true (is_done (acceptance b.state.control q)) x (refused_marked (acceptance b.state.control q) b) a in
         let p = permitted-if (verdict_of q b.state.control.vlr list) (ap (λ (o : Outcome Marked). number_of o.answer) (sym same) ∙ walked) in
-        let ends : ordered_run q list b ≡ outcome (Done 0) (ran_by q list b) =
+        let ends : ordered_run q list b ≡ outcome (Ok 0) (ran_by q list b) =
         sym (walked-straight q list b) ∙ same ∙ ap (by_verdict b (ran_by q list b)) p in
         as-left (run_order q list) (λ c. c) (walk (act q) list (begun b))
         (ap (λ (o : Outcome Marked). o.left.state.elements) ends) (ap (λ (o : Outcome Marked). o.left.marks) ends)
@@ -233,25 +173,18 @@ module _ (q : Queue) (l : Lent) (s : Sized l) where
 module _ (bytes : List ℕ) (l : Lent) (s : Sized l) where
   loaded-if : number_of (loading bytes (lent_state l)).answer ≡ 0 → accepted bytes ≡ true
   unfolding loading
-  loaded-if n = by (accepted bytes) n
-    where
-      by : (t : Bool)
-          → number_of (pick t (outcome (Done 0) (state (elements_in 1024 bytes l.elements) (control_in bytes)))
-          (refused_state (BadFile (leading 1029 bytes)) (lent_state l))).answer ≡ 0
-          → t ≡ true
-      by true e = refl
-      by false e = absurd (omega arith)
+  loaded-if n = grind arith
 
   loads : number_of (loading_marked bytes (lent_marked l)).answer ≡ 0 → Marking (load bytes) l s (λ c. c)
   unfolding called left loading_marked loading
   loads n =
       let a = loaded-if n in
-      let done : is_done (loading bytes (lent_state l)).answer ≡ true = eq-eqb (number_of (loading bytes (lent_state l)).answer) 0 n in
+      let done : is_done (loading bytes (lent_state l)).answer ≡ true = zero-done (loading bytes (lent_state l)).answer n in
       let all : pick (is_done (loading bytes (lent_state l)).answer) all_marks l.marks ≡ all_marks = pick_true _ _ _ done in
       record {
         sized = record {
-          elements = ap (λ (t : Bool). length (pick t (outcome (Done 0) (state (elements_in 1024 bytes l.elements) (control_in bytes)))
-              (refused_state (BadFile (leading 1029 bytes)) (lent_state l))).left.elements) a ∙ elements-length 1024 bytes l.elements ∙ s.elements;
+          elements = ap (λ (t : Bool). length (pick t (outcome (Ok 0) (state (elements_in 1024 bytes l.elements) (control_in bytes)))
+              (refused_state (Err (BadFile (leading 1029 bytes))) (lent_state l))).left.elements) a ∙ elements-length 1024 bytes l.elements ∙ s.elements;
           marks = ap length all ∙ length-replicate 16 (first_elements 64);
         };
         marks = λ r i h k. (
@@ -262,16 +195,9 @@ module _ (bytes : List ℕ) (l : Lent) (s : Sized l) where
         kept = λ r i h k none. absurd (none tt);
       }
 
-unmarked : (r i : ℕ) → r < 16 → mark_of no_marks r i ≡ true → ⊥
-unmarked r i h t = true-not-false (sym (ap (λ (x : ℕ). bit x i) (get_or-replicate 16 r 0 0 h) ∙ bit-none i) ∙ t)
-
 clears : (l : Lent) → Sized l → OneCall clear_marks l
 unfolding called
-clears l s = record {
-  sized = record { elements = s.elements; marks = length-replicate {A = ℕ} 16 0 };
-  marks = λ r i a k. (λ t. absurd (unmarked r i a t), λ w. absurd (w.0 tt));
-  kept = λ r i a k none. refl;
-}
+clears l s = grind arith
 
 -- ---- every call
 pub one-call : (call : Call) (l : Lent) → EachCall call l
@@ -301,15 +227,6 @@ one-call (print_run input) l s = quiet _ l s refl refl refl
 one-call (decode enabled within place opcode cntrl) l s = quiet _ l s refl refl refl
 
 -- ---- any sequence of calls
--- a call that wrote something is no clear
-wrote-no-clear : (k : Kind) (l : Lent) (r i : ℕ) → KindWrote k l r i → Clears k → ⊥
-wrote-no-clear (instruction opcode cntrl) l r i w c = c
-wrote-no-clear (queued q) l r i w c = c
-wrote-no-clear (listed q list) l r i w c = c
-wrote-no-clear file l r i w c = c
-wrote-no-clear clear l r i w c = w
-wrote-no-clear nothing l r i w c = c
-
 module _ (r i : ℕ) (h : r < 16) (k : i < 64) where
   -- from any marks: those that were there stay until a clear
   abbrev Since : List Turn → List ℕ → Type 0
@@ -317,31 +234,22 @@ module _ (r i : ℕ) (h : r < 16) (k : i < 64) where
 
   module _ (t : Turn) (ts : List Turn) (m : List ℕ) (o : OneCall t.call (handed t m))
       (rest : (mark_of (after_all ts (marks_after t m)) r i ≡ true) ↔ Since ts (marks_after t m)) where
-    first-was : NoClear ts → (Clears (kind_of t.call) → ⊥) × ((mark_of m r i ≡ true) ⊎ Wrote t.call (handed t m) r i) → Since (t ∷ ts) m
-    first-was none (clean, inl x) = inl (x, (clean, none))
-    first-was none (clean, inr w) = inr (inl (w, none))
-
     there : Since ts (marks_after t m) → Since (t ∷ ts) m
-    there (inl x) = first-was x.1 ((o.marks r i h k).0 x.0)
-    there (inr w) = inr (inr w)
+    there x = grind arith
 
     back : Since (t ∷ ts) m → Since ts (marks_after t m)
-    back (inl x) = inl ((o.marks r i h k).1 (x.1.0, inl x.0), x.1.1)
-    back (inr (inl w)) =
-        inl ((o.marks r i h k).1 (wrote-no-clear (kind_of t.call) (handed t m) r i w.0.1, inr w.0), w.1)
-    back (inr (inr w)) = inr w
+    back x = grind arith
 
     turned : (mark_of (after_all (t ∷ ts) m) r i ≡ true) ↔ Since (t ∷ ts) m
     unfolding after_all
-    turned = (λ x. there (rest.0 x), λ w. rest.1 (back w))
+    turned = grind arith
 
   since : (ts : List Turn) (m : List ℕ) → length m ≡ 16 → AllSized ts → (mark_of (after_all ts m) r i ≡ true) ↔ Since ts m
   unfolding after_all
   since [] m sixteen sized = (λ x. inl (x, tt), none)
     where
       none : Since [] m → mark_of m r i ≡ true
-      none (inl x) = x.0
-      none (inr w) = absurd w
+      none x = grind arith
   since (t ∷ ts) m sixteen sized =
       let o = one-call t.call (handed t m) (record { elements = sized.0; marks = sixteen }) in
       turned t ts m o (since ts (marks_after t m) o.sized.marks sized.1)
@@ -353,8 +261,7 @@ exactly ts r i sized h k =
     (λ x. written (all.0 x), λ w. all.1 (inr w))
   where
     written : ((mark_of no_marks r i ≡ true) × NoClear ts) ⊎ WrittenSince ts no_marks r i → WrittenSince ts no_marks r i
-    written (inl x) = absurd (unmarked r i h x.0)
-    written (inr w) = w
+    written x = grind arith
 
 -- ---- calls that hand on elements and marks
 module _ (r i : ℕ) (h : r < 16) (k : i < 64) where

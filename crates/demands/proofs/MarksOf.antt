@@ -5,7 +5,6 @@ use mathlib.Core.List.{List}
 use mathlib.Core.Path.{◌≡◌, refl, sym, ap, ◌∙◌}
 use Prim.Native.Nat.{ℕ, zero, suc, ◌≤◌, ◌<◌}
 use native.Mathlib.Omega.{arith}
-use borrow.Author.Tests.{eq-eqb, lt-ltb}
 use lib.Bits.{bit_or, or_zero_r}
 use lib.Dec.{eqb, ltb}
 use lib.ListN.{length, length-set}
@@ -13,7 +12,6 @@ use Rattle.numbers.specs.Bits.{bit}
 use Rattle.numbers.specs.Choice.{pick}
 use Rattle.numbers.specs.Halves.{low}
 use Rattle.numbers.specs.Rising.{rising}
-use Rattle.numbers.proofs.Tests.{pick_true, true-not-false}
 use Rattle.numbers.proofs.Unions.{first-bits, chosen_below}
 use Rattle.state.specs.declared.Control.{Control}
 use Rattle.state.specs.Elements.{at}
@@ -21,8 +19,7 @@ use Rattle.state.specs.Marks.{also_marked, one_element, first_elements}
 use Rattle.state.specs.State.{place_of}
 use Rattle.state.proofs.Marking.{marks-none, marks-twice, marked-bit}
 use Rattle.opcodes.specs.declared.Instruction.{Instruction}
-use Rattle.opcodes.specs.Works.{Writes, element, mask_bit, counted_elements, bytes, is_mask_bit, is_counted}
-use Rattle.opcodes.specs.Opcodes.{row_at, is_memory, writes_mask, in_one_step}
+use Rattle.opcodes.specs.Opcodes.{is_memory, writes_mask, in_one_step}
 use Rattle.opcodes.specs.Masking.{operated}
 use Rattle.opcodes.specs.Working.{Below}
 use Rattle.machine.specs.Run.{Run, joined}
@@ -53,8 +50,7 @@ marks-come vc on (suc n) m = ap (λ (x : List ℕ). pick (on n) (also_marked x v
   where
     by : (t : Bool) → pick t (also_marked (also_marked m vc (chosen_below on n)) vc (one_element n)) (also_marked m vc (chosen_below on n))
         ≡ also_marked m vc (bit_or (chosen_below on n) (pick t (one_element n) 0))
-    by true = marks-twice m vc (chosen_below on n) (one_element n)
-    by false = ap (also_marked m vc) (sym (or_zero_r (chosen_below on n)))
+    by t = grind (arith, marks-twice, or_zero_r)
 
 -- ---- a register instruction, from the run r
 -- what it leaves of elements and marks
@@ -63,24 +59,14 @@ pub record Wrote (ins : Instruction) (r r' : Run) : Type 0 where
   pub marks : length r.gathered.marks ≡ 16 → MarksAfter ins r.control r.gathered.marks r'.gathered.marks
   pub kept : (p i : ℕ) → p < 16 → i < 64 → wrote ins r.control p i ≡ false → at r'.elements p i ≡ at r.elements p i
 
-counts-none : (w : Writes) → is_counted w ≡ true → is_mask_bit w ≡ false
-counts-none element e = refl
-counts-none mask_bit e = sym e
-counts-none counted_elements e = refl
-counts-none bytes e = refl
-
 module _ (ins : Instruction) (scalar : ℕ) (r : Run) (fields : Below ins) (register : is_memory ins.work ≡ false)
     (count : length r.elements ≡ 1024) (few : r.control.vlr ≤ 64) where
   -- what it wrote, by the two kinds
   by-elements : in_one_step ins ≡ false → (i : ℕ) → (not (writes_mask ins) && operated ins r.control i) ≡ wrote_element ins r.control i
-  by-elements alone i = rw (register, alone) (at-mask (writes_mask ins) (operated ins r.control i))
-    where
-      at-mask : (m t : Bool) → (not m && t) ≡ pick m false t
-      at-mask true t = refl
-      at-mask false t = refl
+  by-elements alone i = grind arith
 
   by_count : in_one_step ins ≡ true → (i : ℕ) → ltb i (count_of ins r.control) ≡ wrote_element ins r.control i
-  by_count one i = rw (register, counts-none (row_at ins.work).writes one, one)
+  by_count one i = grind arith
 
   elementwise-wrote : in_one_step ins ≡ false → Wrote ins r (whole_of ins scalar r)
   unfolding wrote
@@ -95,7 +81,7 @@ module _ (ins : Instruction) (scalar : ℕ) (r : Run) (fields : Below ins) (regi
 
   pub is-step : in_one_step ins ≡ true → whole_of ins scalar r ≡ iota_step ins scalar r
   unfolding whole_of steps_below step_of
-  is-step one = ap (λ (t : Bool). steps_below (pick t 1 r.control.vlr) ins scalar r) one ∙ pick_true (in_one_step ins) _ _ one
+  is-step one = grind arith
 
   iota-marks : (iota_step ins scalar r).gathered.marks ≡ also_marked r.gathered.marks ins.vc.0 (first_elements (count_of ins r.control))
   unfolding iota_step joined
@@ -103,7 +89,7 @@ module _ (ins : Instruction) (scalar : ℕ) (r : Run) (fields : Below ins) (regi
 
   iota-long : length (iota_step ins scalar r).elements ≡ 1024
   unfolding iota_step
-  iota-long = walked-length r.control.vmr ins.mtf (low scalar) ins.vc.0 r.control.vlr r.elements ∙ count
+  iota-long = grind (arith, walked-length)
 
   iota-kept : (p i : ℕ) → p < 16 → i < 64 → (eqb p ins.vc.0 && ltb i (count_of ins r.control)) ≡ false
       → at (iota_step ins scalar r).elements p i ≡ at r.elements p i
@@ -112,12 +98,7 @@ module _ (ins : Instruction) (scalar : ℕ) (r : Run) (fields : Below ins) (regi
       walked-outside r.control.vmr ins.mtf (low scalar) ins.vc.0 r.control.vlr (place_of p i) outside r.elements
     where
       outside : Outside ins.vc.0 (count_of ins r.control) (place_of p i)
-      outside f h q =
-          let short = matching-le r.control.vmr ins.mtf r.control.vlr in
-          let same : p ≡ ins.vc.0 = omega (arith, few) in
-          let here : i ≡ f = omega arith in
-          let in_count : ltb i (count_of ins r.control) ≡ true = lt-ltb i (count_of ins r.control) (rw here h) in
-          true-not-false (sym e ∙ rw (eq-eqb p ins.vc.0 same, in_count) refl)
+      outside f h q = grind (arith, matching-le)
 
   iota-wrote : in_one_step ins ≡ true → Wrote ins r (whole_of ins scalar r)
   unfolding wrote
@@ -129,8 +110,4 @@ module _ (ins : Instruction) (scalar : ℕ) (r : Run) (fields : Below ins) (regi
   })
 
   pub whole-wrote : Wrote ins r (whole_of ins scalar r)
-  whole-wrote = by (in_one_step ins) refl
-    where
-      by : (t : Bool) → in_one_step ins ≡ t → Wrote ins r (whole_of ins scalar r)
-      by true e = iota-wrote e
-      by false e = elementwise-wrote e
+  whole-wrote = grind (arith, iota-wrote, elementwise-wrote)

@@ -16,14 +16,13 @@ use Rattle.numbers.specs.Rising.{rising}
 use Rattle.numbers.proofs.BitLaws.{dec_eq}
 use Rattle.numbers.proofs.LittleEndian.{bytes-length}
 use Rattle.numbers.proofs.Over.{length_over}
-use Rattle.numbers.proofs.Tests.{pick-false}
 use Rattle.state.specs.State.{place_of}
 use Rattle.state.specs.Elements.{at}
 use Rattle.memory.specs.Works.{size_of}
 use Rattle.memory.specs.Window.{number_at, put_at}
 use Rattle.memory.specs.Move.{received, load_step, store_step}
 use Rattle.demands.proofs.Placing.{places-next}
-use Rattle.demands.proofs.Coming.{and_none, come, come-not, come-first, come-same}
+use Rattle.demands.proofs.Coming.{come}
 
 -- ---- a load
 module _ (quadword : Bool) (vc : ℕ) (on : ℕ → Bool) (place : ℕ → ℕ) (w l : List ℕ) (register : vc < 16) (count : length l ≡ 1024) where
@@ -37,15 +36,10 @@ module _ (quadword : Bool) (vc : ℕ) (on : ℕ → Bool) (place : ℕ → ℕ) 
 
   module _ (n : ℕ) (small : n < 64) (m : List ℕ) (u : Upto n m) where
     idle : on n ≡ false → Upto (suc n) m
-    idle e = record {
-      long = u.long;
-      elements = λ p i a b. u.elements p i a b ∙ ap (λ (t : Bool). pick (eqb p vc && t) (gets p i) (at l p i)) (sym (come-same on n i e));
-    }
+    idle e = grind arith
 
     own : at m vc n ≡ at l vc n
-    own =
-        u.elements vc n register small
-        ∙ pick-false (eqb vc vc && come on n n) _ _ (ap (λ (t : Bool). eqb vc vc && t) (come-not on n) ∙ and_none (eqb vc vc))
+    own = grind arith
 
     loads : on n ≡ true → Upto (suc n) (set m (place_of vc n) (gets vc n))
     loads e = record {
@@ -55,17 +49,13 @@ module _ (quadword : Bool) (vc : ℕ) (on : ℕ → Bool) (place : ℕ → ℕ) 
 
     stepped : Upto (suc n) (load_step quadword vc on place w n m)
     unfolding load_step
-    stepped = rw own (by (on n) refl)
-      where
-        by : (t : Bool) → on n ≡ t → Upto (suc n) (pick t (set m (place_of vc n) (gets vc n)) m)
-        by true e = loads e
-        by false e = idle e
+    stepped = grind (arith, own, loads, idle)
 
   pub loaded : (n : ℕ) → n ≤ 64 → Upto n (rising (load_step quadword vc on place w) n l)
   unfolding rising
   loaded zero h = record {
     long = count;
-    elements = λ p i a b. sym (pick-false (eqb p vc && come on 0 i) _ _ (ap (λ (t : Bool). eqb p vc && t) (come-first on i) ∙ and_none (eqb p vc)));
+    elements = λ p i a b. grind arith;
   }
   loaded (suc n) h = stepped n (omega arith) (rising (load_step quadword vc on place w) n l) (loaded n (omega arith))
 
@@ -82,10 +72,7 @@ module _ (w : List ℕ) (p : ℕ) (new : List ℕ) (fits : p + length new ≤ le
   head = length-take-le p w (omega arith)
 
   over-within : (k : ℕ) → k < length new → get_or (over w p new) (p + k) 0 ≡ get_or new k 0
-  over-within k h =
-      ap (λ (n : ℕ). get_or (over w p new) (n + k) 0) (sym head)
-      ∙ get_or-append-add (take p w) (new ++ drop (p + length new) w) k 0
-      ∙ get_or-append new (drop (p + length new) w) 0 k h
+  over-within k h = grind (arith, head, get_or-append-add, get_or-append)
 
   over-outside : (k : ℕ) → (k < p) ⊎ (p + length new ≤ k) → get_or (over w p new) k 0 ≡ get_or w k 0
   over-outside k (inl h) =
@@ -127,11 +114,7 @@ module _ (quadword : Bool) (vc : ℕ) (on : ℕ → Bool) (place : ℕ → ℕ) 
   stored-length (suc n) f = by (on n) refl (stored-length n (fewer n f))
     where
       by : (t : Bool) → on n ≡ t → length (stored n) ≡ length w → length (pick t (put_at size (stored n) (place n) (at l vc n)) (stored n)) ≡ length w
-      by true e long =
-          length_over (stored n) (place n) (bytes_of size (at l vc n))
-          (let g = f n (omega arith) e in let b = bytes-length size (at l vc n) in omega arith)
-          ∙ long
-      by false e long = long
+      by t e long = grind (arith, length_over, bytes-length)
 
   -- what the turn of element n does not have it keeps
   module _ (n : ℕ) (f : Fit (suc n)) (k : ℕ) where
@@ -170,5 +153,4 @@ module _ (quadword : Bool) (vc : ℕ) (on : ℕ → Bool) (place : ℕ → ℕ) 
     where
       by : Dec (i ≡ n) → (i < n → get_or (stored n) (place i + k) 0 ≡ at l vc i / 256 ^ k % 256)
           → get_or (stored (suc n)) (place i + k) 0 ≡ at l vc i / 256 ^ k % 256
-      by (yes z) on = rw z (written n f (rw z at e) k h)
-      by (no z) on = keeps n f (place i + k) (λ c. later n (omega arith) (omega arith) c) ∙ on (omega arith)
+      by x on = grind (arith, written, keeps)

@@ -1,18 +1,14 @@
 -- DEMAND 1, the theorem `holds`: every call's number is one of document 01's, and a refused call changes nothing. Assumes nothing.
-use mathlib.Core.Bool.{Bool, true, false, ◌&&◌}
+use Rattle.std.specs.Prelude.{Ok}
+use mathlib.Core.Bool.{Bool, ◌&&◌}
 use mathlib.Core.List.{List}
 use mathlib.Core.Path.{◌≡◌, refl, ap, ◌∙◌}
 use Prim.Native.Nat.{ℕ, ◌≤◌}
 use native.Mathlib.Omega.{arith}
-use borrow.Author.Tests.{ne_eqb}
 use Rattle.numbers.specs.Choice.{pick}
 use Rattle.numbers.specs.Halves.{low}
 use Rattle.state.specs.declared.Control.{Control}
-use Rattle.state.specs.declared.answer.Answer.{Answer}
-use Rattle.state.specs.declared.answer.Answer.TheVariants.{Done, ReservedOpcode, ReservedControlWord, Disabled, WindowRefused, Misaligned}
-use Rattle.state.specs.declared.answer.Answer.TheVariants.{OutsideWindow, MemoryOpcode, QueueRefused, OrderRefused, BadFile, ValueRefused}
-use Rattle.state.specs.declared.answer.Answer.TheVariants.{OutOfRange, NoSuchField}
-use Rattle.state.specs.Answer.{number_of, numbers}
+use Rattle.state.specs.Answer.{Answer, numbers}
 use Rattle.state.specs.Marks.{Marked}
 use Rattle.state.specs.Outcome.{Outcome, given}
 use Rattle.state.specs.State.{in_range}
@@ -34,24 +30,8 @@ use Rattle.demands.specs.Calls.{Call, Lent, lent, lent_state, lent_marked, read_
 use Rattle.demands.specs.Calls.{read_vlr, read_vcr, read_vmr_low, read_vmr_high, read_vaer, read_vpsr, write_vlr, write_vcr, write_vmr_low, write_vmr_high, write_vpsr}
 use Rattle.demands.specs.Calls.{execute, run, run_order, save, load, clear_marks, reading, list_state, list_file, list_answer, print_run, decode}
 use Rattle.demands.specs.One.{DemandOne}
-use Rattle.demands.proofs.Keeping.{Keeps}
+use Rattle.demands.proofs.Keeping.{numbered, not-done, Keeps}
 use Rattle.demands.proofs.CallsKeep.{write_keeps, execute-keeps, run-keeps, order-keeps, save-keeps, load-keeps, print-keeps, list-keeps}
-
-numbered : (a : Answer) → number_of a ≤ 13
-numbered (Done value) = omega arith
-numbered (ReservedOpcode position) = omega arith
-numbered (ReservedControlWord position) = omega arith
-numbered Disabled = omega arith
-numbered WindowRefused = omega arith
-numbered (Misaligned element) = omega arith
-numbered (OutsideWindow element) = omega arith
-numbered (MemoryOpcode position) = omega arith
-numbered QueueRefused = omega arith
-numbered (OrderRefused position) = omega arith
-numbered (BadFile record_number) = omega arith
-numbered ValueRefused = omega arith
-numbered OutOfRange = omega arith
-numbered NoSuchField = omega arith
 
 -- what DEMAND 1 says of any answer and of what is lent after it
 record Right (l : Lent) (g : (ℕ × ℕ) × Lent) : Type 0 where
@@ -61,13 +41,13 @@ record Right (l : Lent) (g : (ℕ × ℕ) × Lent) : Type 0 where
 -- ---- by what the call may alter
 module _ (l : Lent) where
   nothing : (a : Answer) → Right l (read_off l a)
-  nothing a = record { number = numbered a; kept = λ n. refl }
+  nothing a = grind arith
 
   numbers_only : (o : Outcome Control) → Keeps o (control_of l.control) → Right l (into_control l (given o))
   numbers_only o k = record {
     number = numbered o.answer;
     kept = λ n. ap (λ (c : List ℕ). lent l.elements c l.marks l.bytes l.kind_read l.bits)
-        (ap (control_into l.control) (k.kept (ne_eqb (number_of o.answer) 0 n)) ∙ stored_back l.control);
+        (ap (control_into l.control) (k.kept (not-done o.answer n)) ∙ stored_back l.control);
   }
 
   whole : (o : Outcome Marked) → Keeps o (lent_marked l) → Right l (into_state l (left l.control o))
@@ -75,7 +55,7 @@ module _ (l : Lent) where
   whole o k = record {
     number = numbered o.answer;
     kept = λ n. ap (λ (b : Marked). lent b.state.elements (control_into l.control b.state.control) b.marks l.bytes l.kind_read l.bits)
-        (k.kept (ne_eqb (number_of o.answer) 0 n))
+        (k.kept (not-done o.answer n))
         ∙ ap (λ (c : List ℕ). lent l.elements c l.marks l.bytes l.kind_read l.bits) (stored_back l.control);
   }
 
@@ -85,25 +65,21 @@ module _ (l : Lent) where
     number = numbered o.answer;
     kept = λ n. ap (λ (x : Marked × List ℕ). lent x.0.state.elements (control_into l.control x.0.state.control) x.0.marks x.1
         l.kind_read l.bits)
-        (k.kept (ne_eqb (number_of o.answer) 0 n))
+        (k.kept (not-done o.answer n))
         ∙ ap (λ (c : List ℕ). lent l.elements c l.marks l.bytes l.kind_read l.bits) (stored_back l.control);
   }
 
   bytes : (o : Outcome (List ℕ)) → Keeps o l.bytes → Right l (into_bytes l o)
-  bytes o k = record {
-    number = numbered o.answer;
-    kept = λ n. ap (λ (b : List ℕ). lent l.elements l.control l.marks b l.kind_read l.bits) (k.kept (ne_eqb (number_of o.answer) 0 n));
-  }
+  bytes o k = grind arith
 
   field : (register element kind : ℕ) → Right l (into_reading l (field_read (lent_state l) register element kind l.kind_read l.bits))
   unfolding field_read
   field register element kind = by (in_range (control_of l.control) && is_field register element kind)
     where
       by : (t : Bool) → Right l (into_reading l (pick t
-          (numbers (Done 0), kind_shown kind (low (at l.elements register element)), bits_shown kind (low (at l.elements register element)))
+          (numbers (Ok 0), kind_shown kind (low (at l.elements register element)), bits_shown kind (low (at l.elements register element)))
           (numbers (field_answer (control_of l.control) register element kind), l.kind_read, l.bits)))
-      by true = record { number = omega arith; kept = λ n. absurd (n refl) }
-      by false = record { number = numbered (field_answer (control_of l.control) register element kind); kept = λ n. refl }
+      by t = grind arith
 
 every : (call : Call) (l : Lent) → Right l (called call l)
 unfolding called

@@ -1,4 +1,5 @@
 -- What a rounded result means, for F: the theorems `F-rounds` and `F-own`. Assumes nothing.
+use native.Mathlib.Omega.{arith}
 use mathlib.Core.Path.{◌≡◌}
 use Prim.Native.Nat.{ℕ, ◌<◌}
 use Rattle.floating.specs.declared.Delivery.TheVariants.{Word}
@@ -12,13 +13,7 @@ use Rattle.demands.specs.Rounds.{Nearest, Rounds, OwnWord}
 
 module _ (f : Format) (S : Sound f) (v : Exact) where
   nearest : v.sign < 2 → 0 < v.den → (v.num ≡ 0 → ⊥) → (w : ℕ) → delivered f v ≡ Word w → Nearest f v w
-  nearest hs D some w is = record {
-    is = is;
-    sign = delivered-sign f S v w hs D some is;
-    fits = delivered-lt f S v w hs D some is;
-    above = delivered-over f S v w hs D some is;
-    below = delivered-under f S v w hs D some is;
-  }
+  nearest hs D some w is = grind (arith, delivered-sign, delivered-lt, delivered-over, delivered-under)
 
   -- over the format
   rounds : Rounds f v

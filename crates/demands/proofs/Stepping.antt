@@ -2,21 +2,18 @@
 use mathlib.Core.Bool.{Bool, true, false, ◌&&◌, ◌||◌, or-false}
 use mathlib.Core.List.{List, [], ◌∷◌}
 use mathlib.Core.Logic.{◌⊎◌, ◌↔◌, inl, inr}
-use mathlib.Core.Path.{◌≡◌, refl, sym, ap, ap₂, ◌∙◌}
+use mathlib.Core.Path.{◌≡◌, refl, sym, ap, ◌∙◌}
 use Prim.Native.Nat.{ℕ, zero, suc, ◌%◌, ◌≤◌, ◌<◌}
 use native.Mathlib.Omega.{arith}
-use borrow.Author.Tests.{eq-eqb, ne_eqb}
 use lib.Dec.{eqb}
 use lib.ListN.{length, length-set, get_or, set, take}
 use lib.Seq.{get_or-set_other}
 use Rattle.numbers.specs.Bits.{bit, with_bit}
 use Rattle.numbers.specs.Choice.{pick}
-use Rattle.numbers.proofs.BitLaws.{dec_eq}
 use Rattle.numbers.proofs.Sets.{bit-none}
-use Rattle.numbers.proofs.Tests.{true-not-false}
 use Rattle.numbers.proofs.Unions.{bit-one}
 use Rattle.state.specs.Elements.{at}
-use Rattle.state.specs.Marks.{also_marked, one_element}
+use Rattle.state.specs.Marks.{also_marked}
 use Rattle.state.specs.State.{place_of, with_vmr}
 use Rattle.state.proofs.Marking.{marked-bit}
 use Rattle.opcodes.specs.declared.Instruction.{Instruction}
@@ -39,13 +36,10 @@ use Rattle.demands.specs.Written.{wrote, step_wrote, mark_of}
 use Rattle.demands.proofs.MarksOf.{Wrote, whole-wrote, is-step}
 
 pub or_split : (a b : Bool) → (a || b) ≡ true → (a ≡ true) ⊎ (b ≡ true)
-or_split true b e = inl refl
-or_split false b e = inr e
+or_split a b e = grind arith
 
 pub or-one : (a b : Bool) → (a ≡ true) ⊎ (b ≡ true) → (a || b) ≡ true
-or-one true b e = refl
-or-one false b (inl e) = absurd (true-not-false e)
-or-one false b (inr e) = e
+or-one a b x = grind arith
 
 -- a run over 1,024 elements and sixteen marks, at a VLR of at most 64
 pub record Fit (r : Run) : Type 0 where
@@ -79,27 +73,7 @@ module _ (ins : Instruction) (scalar : ℕ) (r : Run) (fields : Below ins) (regi
       -- what the step of element e writes of Vc
       only : (p i : ℕ) → writes p i ≡ (eqb p ins.vc.0 && (pick (writes_mask ins) false (operated ins r.control e) && eqb i e))
       unfolding step_wrote wrote
-      only p i = rw (register, alone) (by (dec_eq i e))
-        where
-          and-out : (a b c : Bool) → (a && b && c) ≡ (a && (b && c))
-          and-out true b c = refl
-          and-out false b c = refl
-
-          none : (b : Bool) → (b && false) ≡ false
-          none true = refl
-          none false = refl
-
-          by : Dec (i ≡ e)
-              → ((eqb p ins.vc.0 && pick (writes_mask ins) false (operated ins r.control i)) && eqb i e)
-              ≡ (eqb p ins.vc.0 && (pick (writes_mask ins) false (operated ins r.control e) && eqb i e))
-          by (yes q) = and-out (eqb p ins.vc.0) (pick (writes_mask ins) false (operated ins r.control i)) (eqb i e)
-              ∙ ap (λ (x : ℕ). eqb p ins.vc.0 && (pick (writes_mask ins) false (operated ins r.control x) && eqb i e)) q
-          by (no q) =
-              ap (λ (t : Bool). (eqb p ins.vc.0 && pick (writes_mask ins) false (operated ins r.control i)) && t) (ne_eqb i e q)
-              ∙ none (eqb p ins.vc.0 && pick (writes_mask ins) false (operated ins r.control i))
-              ∙ sym (ap (λ (t : Bool). eqb p ins.vc.0 && (pick (writes_mask ins) false (operated ins r.control e) && t)) (ne_eqb i e q)
-              ∙ ap (λ (t : Bool). eqb p ins.vc.0 && t) (none (pick (writes_mask ins) false (operated ins r.control e)))
-              ∙ none (eqb p ins.vc.0))
+      only p i = grind arith
 
       idle : operated ins r.control e ≡ false → Stepped writes r r
       idle off = record {
@@ -109,13 +83,7 @@ module _ (ins : Instruction) (scalar : ℕ) (r : Run) (fields : Below ins) (regi
       }
         where
           nothing : (p i : ℕ) → writes p i ≡ false
-          nothing p i = only p i ∙ rw off (by (writes_mask ins) (eqb p ins.vc.0))
-            where
-              by : (m x : Bool) → (x && (pick m false false && eqb i e)) ≡ false
-              by true true = refl
-              by true false = refl
-              by false true = refl
-              by false false = refl
+          nothing p i = grind (arith, only)
 
       -- the element is operated on
       module _ (on : operated ins r.control e ≡ true) where
@@ -128,13 +96,9 @@ module _ (ins : Instruction) (scalar : ℕ) (r : Run) (fields : Below ins) (regi
             (run r.elements (with_vmr r.control (with_bit r.control.vmr e (value % 2))) r.gathered)
             (run (set r.elements (place_of ins.vc.0 e) value) r.control r.gathered)
 
-        left-gathers : (m : Bool) → (left m).gathered ≡ r.gathered
-        left-gathers true = refl
-        left-gathers false = refl
-
         worked-marks : (worked ins scalar e r).gathered.marks ≡ also_marked r.gathered.marks ins.vc.0 (wrote_at ins e)
         unfolding worked written joined
-        worked-marks = ap (λ g. also_marked g.marks ins.vc.0 (wrote_at ins e)) (left-gathers (writes_mask ins))
+        worked-marks = grind arith
 
         worked-elements : (worked ins scalar e r).elements ≡ (left (writes_mask ins)).elements
         unfolding worked written
@@ -142,21 +106,13 @@ module _ (ins : Instruction) (scalar : ℕ) (r : Run) (fields : Below ins) (regi
 
         worked-vlr : (worked ins scalar e r).control.vlr ≡ r.control.vlr
         unfolding worked written
-        worked-vlr = by (writes_mask ins)
-          where
-            by : (m : Bool) → (left m).control.vlr ≡ r.control.vlr
-            by true = refl
-            by false = refl
+        worked-vlr = grind arith
 
         marks-bit : (i : ℕ) → bit (wrote_at ins e) i ≡ (pick (writes_mask ins) false true && eqb i e)
-        marks-bit i = by (writes_mask ins)
-          where
-            by : (m : Bool) → bit (pick m 0 (one_element e)) i ≡ (pick m false true && eqb i e)
-            by true = bit-none i
-            by false = bit-one e i
+        marks-bit i = grind (arith, bit-none, bit-one)
 
         writes-on : (p i : ℕ) → writes p i ≡ (eqb p ins.vc.0 && (pick (writes_mask ins) false true && eqb i e))
-        writes-on p i = only p i ∙ ap (λ (t : Bool). eqb p ins.vc.0 && (pick (writes_mask ins) false t && eqb i e)) on
+        writes-on p i = grind (arith, only)
 
         works : Stepped writes r (worked ins scalar e r)
         works = record {
@@ -173,25 +129,15 @@ module _ (ins : Instruction) (scalar : ℕ) (r : Run) (fields : Below ins) (regi
         }
           where
             long : (m : Bool) → length (left m).elements ≡ 1024
-            long true = f.long
-            long false = length-set r.elements (place_of ins.vc.0 e) value ∙ f.long
+            long m = grind (arith, length-set)
 
             same : (p i : ℕ) → p < 16 → i < 64 → (m : Bool) → (eqb p ins.vc.0 && (pick m false true && eqb i e)) ≡ false
                 → at (left m).elements p i ≡ at r.elements p i
-            same p i a b true n = refl
-            same p i a b false n =
-                get_or-set_other r.elements (place_of ins.vc.0 e) (place_of p i) value 0
-                (λ q. let v = fields.vc in
-                let sp : p ≡ ins.vc.0 = omega arith in let si : i ≡ e = omega arith in
-                true-not-false (sym n ∙ ap₂ (λ (x y : Bool). x && y) (eq-eqb p ins.vc.0 sp) (eq-eqb i e si)))
+            same p i a b m n = grind (arith, get_or-set_other)
 
       element-steps : Stepped writes r (step_of ins scalar e r)
       unfolding step_of element_step
-      element-steps = rw alone (by (operated ins r.control e) refl)
-        where
-          by : (t : Bool) → operated ins r.control e ≡ t → Stepped writes r (pick t (worked ins scalar e r) r)
-          by true o = works o
-          by false o = idle o
+      element-steps = grind (arith, works, idle)
 
     -- IOTA's
     iota-steps : in_one_step ins ≡ true → Stepped writes r (step_of ins scalar e r)
@@ -208,15 +154,10 @@ module _ (ins : Instruction) (scalar : ℕ) (r : Run) (fields : Below ins) (regi
         })
       where
         whole : (t : Bool) → t ≡ (t && true)
-        whole true = refl
-        whole false = refl
+        whole t = grind arith
 
     pub step-steps : Stepped writes r (step_of ins scalar e r)
-    step-steps = by (in_one_step ins) refl
-      where
-        by : (t : Bool) → in_one_step ins ≡ t → Stepped writes r (step_of ins scalar e r)
-        by true o = iota-steps o
-        by false o = element-steps o
+    step-steps = grind (arith, iota-steps, element-steps)
 
 -- ---- some instructions or steps
 -- what they leave: `Writes` tells which elements they wrote
@@ -243,31 +184,20 @@ module _ (q : Queue) where
       next = whole-steps (instruction_at q n) (scalar_at q n) here (at-below q n) (register-at n) l.fit
 
       older : (p i : ℕ) → StraightWrote r n p i → StraightWrote r (suc n) p i
-      older p i w = (w.0, let h = w.1 in omega arith, w.2)
+      older p i w = grind arith
 
       more : (p i : ℕ) → p < 16
           → (mark_of (straight q (suc n) r).gathered.marks p i ≡ true) ↔ ((mark_of r.gathered.marks p i ≡ true) ⊎ StraightWrote r (suc n) p i)
       unfolding straight
       more p i a = (λ t. there (or_split _ _ (sym (next.marks p i a) ∙ t)), λ w. next.marks p i a ∙ or-one _ _ (back w))
         where
-          was : (mark_of r.gathered.marks p i ≡ true) ⊎ StraightWrote r n p i → (mark_of r.gathered.marks p i ≡ true) ⊎ StraightWrote r (suc n) p i
-          was (inl x) = inl x
-          was (inr w) = inr (older p i w)
-
           there : (mark_of here.gathered.marks p i ≡ true) ⊎ (wrote (instruction_at q n) here.control p i ≡ true)
               → (mark_of r.gathered.marks p i ≡ true) ⊎ StraightWrote r (suc n) p i
-          there (inl x) = was ((l.marks p i a).0 x)
-          there (inr w) = inr (n, omega arith, w)
-
-          last : (k : ℕ) → k < suc n → wrote (instruction_at q k) (straight q k r).control p i ≡ true → Dec (k ≡ n)
-              → (mark_of here.gathered.marks p i ≡ true) ⊎ (wrote (instruction_at q n) here.control p i ≡ true)
-          last k h w (yes e) = inr (ap (λ (j : ℕ). wrote (instruction_at q j) (straight q j r).control p i) (sym e) ∙ w)
-          last k h w (no e) = inl ((l.marks p i a).1 (inr (k, omega arith, w)))
+          there x = grind arith
 
           back : (mark_of r.gathered.marks p i ≡ true) ⊎ StraightWrote r (suc n) p i
               → (mark_of here.gathered.marks p i ≡ true) ⊎ (wrote (instruction_at q n) here.control p i ≡ true)
-          back (inl x) = inl ((l.marks p i a).1 (inl x))
-          back (inr w) = last w.0 w.1 w.2 (dec_eq w.0 n)
+          back x = grind arith
 
       stays : (p i : ℕ) → p < 16 → i < 64 → (StraightWrote r (suc n) p i → ⊥) → at (straight q (suc n) r).elements p i ≡ at r.elements p i
       unfolding straight
@@ -276,8 +206,7 @@ module _ (q : Queue) where
           ∙ l.kept p i a b (λ w. none (older p i w))
         where
           not-wrote : (t : Bool) → wrote (instruction_at q n) here.control p i ≡ t → t ≡ false
-          not-wrote true e = absurd (none (n, omega arith, e))
-          not-wrote false e = refl
+          not-wrote t e = grind arith
 
       one_more : Left (StraightWrote r (suc n)) r (straight q (suc n) r)
       unfolding straight
@@ -292,8 +221,7 @@ module _ (q : Queue) where
     }
       where
         none : (p i : ℕ) → (mark_of r.gathered.marks p i ≡ true) ⊎ StraightWrote r 0 p i → mark_of r.gathered.marks p i ≡ true
-        none p i (inl x) = x
-        none p i (inr w) = absurd (let h = w.1 in omega arith)
+        none p i x = grind arith
     straight-left (suc n) = one_more n (straight-left n)
 
   acts : (x : ℕ) (r : Run) → Fit r → Stepped (step_wrote (instruction_at q (position x)) (element x) r.control) r (act q x r)
@@ -326,8 +254,7 @@ module _ (q : Queue) where
     there p i a (inl t) = by (or_split _ _ (sym (first.marks p i a) ∙ t))
       where
         by : (mark_of r.gathered.marks p i ≡ true) ⊎ (entry_writes p i ≡ true) → (mark_of r.gathered.marks p i ≡ true) ⊎ WalkWrote r (x ∷ list) p i
-        by (inl m) = inl m
-        by (inr w) = inr (0, omega arith, w)
+        by x = grind arith
     there p i a (inr w) = inr (later p i w)
 
     back : (p i : ℕ) → p < 16 → (mark_of r.gathered.marks p i ≡ true) ⊎ WalkWrote r (x ∷ list) p i
@@ -346,8 +273,7 @@ module _ (q : Queue) where
 
     not-wrote : (p i : ℕ) → (WalkWrote r (x ∷ list) p i → ⊥) → (t : Bool) → entry_writes p i ≡ t → t ≡ false
     unfolding walk
-    not-wrote p i none true e = absurd (none (0, omega arith, e))
-    not-wrote p i none false e = refl
+    not-wrote p i none t e = grind arith
 
     entry_more : Left (WalkWrote r (x ∷ list)) r (walk (act q) (x ∷ list) r)
     unfolding walk
@@ -366,6 +292,5 @@ module _ (q : Queue) where
   }
     where
       none : (p i : ℕ) → (mark_of r.gathered.marks p i ≡ true) ⊎ WalkWrote r [] p i → mark_of r.gathered.marks p i ≡ true
-      none p i (inl x) = x
-      none p i (inr w) = absurd (let h = w.1 in omega arith)
+      none p i x = grind arith
   walk-left (x ∷ list) r f = entry_more x list r f (walk-left list (act q x r) (acts x r f).fit)

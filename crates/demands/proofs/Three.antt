@@ -1,5 +1,7 @@
 -- DEMAND 3, the theorem `holds`: of any state, any queue that is accepted there and any list. Beside it `run_ends`, of the end of
 -- a run, and `empty-queue` and `empty-list`. Assumes nothing.
+use native.Mathlib.Omega.{arith}
+use Rattle.std.specs.Prelude.{Ok}
 use mathlib.Core.Bool.{Bool, true, not}
 use mathlib.Core.Path.{◌≡◌, refl, sym, ap, ap₂, ◌∙◌}
 use Prim.Native.Nat.{ℕ}
@@ -8,12 +10,10 @@ use lib.Bits.{bit_or, or_zero_r}
 use lib.Dec.{eqb}
 use Rattle.numbers.specs.Bits.{with_bit}
 use Rattle.numbers.specs.Choice.{pick}
-use Rattle.numbers.proofs.Tests.{pick_true}
-use Rattle.state.specs.declared.answer.Answer.TheVariants.{Done, Disabled, OutOfRange}
 use Rattle.state.specs.Answer.{is_done}
-use Rattle.state.specs.Marks.{Marked, marked}
+use Rattle.state.specs.Marks.{Marked}
 use Rattle.state.specs.Outcome.{outcome, refused_marked}
-use Rattle.state.specs.State.{state, in_range, enabled, with_vaer}
+use Rattle.state.specs.State.{in_range, enabled}
 use Rattle.state.proofs.Ranges.{ranged}
 use Rattle.machine.specs.Run.{Run, begun, ended}
 use Rattle.order.specs.Order.{each, check_from, check}
@@ -63,20 +63,18 @@ run_ends q b accepted = end-of-run q b accepted
 
 -- ---- nothing to do
 module _ (b : Marked) (ranged : in_range b.state.control ≡ true) (on : enabled b.state.control ≡ true) where
-  accepts : acceptance b.state.control empty_queue ≡ Done 0
+  accepts : acceptance b.state.control empty_queue ≡ Ok 0
   unfolding acceptance positions
-  accepts = pick_true (in_range b.state.control) _ OutOfRange ranged ∙ pick_true (enabled b.state.control) _ Disabled on
+  accepts = grind arith
 
   leaves : ran_through empty_queue b ≡ b
   unfolding ran_through straight ended
-  leaves = ap (λ (v : ℕ). marked (state b.state.elements (with_vaer b.state.control v)) b.marks) (or_zero_r b.state.control.vaer)
+  leaves = grind (arith, or_zero_r)
 
-  empty : pick (is_done (acceptance b.state.control empty_queue)) (outcome (Done 0) (ran_through empty_queue b))
+  empty : pick (is_done (acceptance b.state.control empty_queue)) (outcome (Ok 0) (ran_through empty_queue b))
       (refused_marked (acceptance b.state.control empty_queue) b)
-      ≡ outcome (Done 0) b
-  empty =
-      pick_true (is_done (acceptance b.state.control empty_queue)) _ (refused_marked (acceptance b.state.control empty_queue) b) (ap is_done accepts)
-      ∙ ap (outcome (Done 0)) leaves
+      ≡ outcome (Ok 0) b
+  empty = grind (arith, accepts, leaves)
 
 pub empty-queue : (b : Marked) → EmptyQueue b
 unfolding queue_run

@@ -1,19 +1,19 @@
 -- DEMAND 2, the theorem `holds`: when an instruction is done, and what it then leaves, from its entry state; and the two round trips of saving and
 -- loading. Assumes nothing.
+use Rattle.std.specs.Prelude.{Ok, Err}
 use mathlib.Core.Bool.{Bool, true, false, ◌&&◌}
 use mathlib.Core.List.{List}
 use mathlib.Core.Path.{◌≡◌, refl, sym, ap, subst, ◌∙◌}
 use Prim.Native.Nat.{ℕ, ◌+◌, ◌≤◌, ◌<◌}
 use native.Mathlib.Omega.{arith}
-use borrow.Author.Tests.{ltb-true}
-use lib.Dec.{ltb, eqb}
+use lib.Dec.{eqb}
 use lib.ListN.{length, get_or}
 use Rattle.numbers.specs.Choice.{pick}
 use Rattle.numbers.proofs.Sets.{bit-none}
-use Rattle.numbers.proofs.Tests.{true-not-false, and_left, pick_true, pick-false}
+use Rattle.numbers.proofs.Tests.{pick-false}
 use Rattle.numbers.proofs.Unions.{chosen_below, chosen-bits}
 use Rattle.state.specs.declared.Control.{Control}
-use Rattle.state.specs.declared.answer.Answer.TheVariants.{Done, OutOfRange}
+use Rattle.state.specs.declared.answer.Refusal.TheVariants.{OutOfRange}
 use Rattle.state.specs.Answer.{is_done}
 use Rattle.state.specs.Marks.{Marked, marked}
 use Rattle.state.specs.Outcome.{Outcome, outcome, refused_window}
@@ -22,15 +22,11 @@ use Rattle.state.specs.Elements.{at}
 use Rattle.state.proofs.Marking.{marks-none}
 use Rattle.state.proofs.Ranges.{Ranged, ranged}
 use Rattle.opcodes.specs.declared.Instruction.{Instruction}
-use Rattle.opcodes.specs.declared.Decoded.{Decoded}
-use Rattle.opcodes.specs.declared.Decoded.TheVariants.{Accepted, Refused}
-use Rattle.opcodes.specs.declared.Opcode.{Opcode}
-use Rattle.opcodes.specs.declared.Opcode.TheVariants as entry
-use Rattle.opcodes.specs.Opcodes.{opcode_of, is_memory}
-use Rattle.opcodes.specs.Decoding.{by_opcode, decoded_of}
+use Rattle.opcodes.specs.Opcodes.{is_memory}
+use Rattle.opcodes.specs.Decoding.{Decoded, decoded_of}
 use Rattle.opcodes.specs.Masking.{operated}
 use Rattle.opcodes.specs.Working.{Below}
-use Rattle.opcodes.proofs.Passed.{passed, refusal}
+use Rattle.opcodes.proofs.Passed.{passed}
 use Rattle.machine.specs.Run.{begun}
 use Rattle.machine.specs.Instruction.{whole_of, instruction_done}
 use Rattle.memory.specs.Works.{is_store, is_quadword}
@@ -42,7 +38,7 @@ use Rattle.saved.proofs.Saving.{saves-done}
 use Rattle.saved.proofs.RoundTrip.{loads-again, saves-again}
 use Rattle.demands.specs.Two.{place_in, bytes_each, Inside, Loaded, Stored, Accepts, Leaves, OneInstruction, DemandTwo}
 use Rattle.demands.specs.Written.{wrote_element, wrote, MarksAfter}
-use Rattle.demands.proofs.Coming.{and-twice, come}
+use Rattle.demands.proofs.Coming.{come}
 use Rattle.demands.proofs.MarksOf.{joins-marks, marks-come, Wrote, whole-wrote}
 use Rattle.demands.proofs.Elementwise as elementwise
 use Rattle.demands.proofs.Counting as counting
@@ -51,17 +47,17 @@ use Rattle.demands.proofs.Moved.{loaded, stored-length, stored-others, stored_by
 -- ---- the elements that are operated on are below VLR
 below : (ins : Instruction) (c : Control) (i : ℕ) → operated ins c i ≡ true → i < c.vlr
 unfolding operated
-below ins c i e = ltb-true i c.vlr (and_left (ltb i c.vlr) _ e)
+below ins c i e = grind arith
 
 every : (ins : Instruction) (c : Control) (i : ℕ) → come (operated ins c) c.vlr i ≡ operated ins c i
 unfolding operated
-every ins c i = and-twice (ltb i c.vlr) _
+every ins c i = grind arith
 
 -- ---- a memory instruction
 module _ (ins : Instruction) (base stride : ℕ) (b : Marked) (origin : ℕ) (w : List ℕ) where
   -- that was done
   module _ (done : is_done (moved_of b ins base stride w origin).answer ≡ true) where
-    abbrev told : memory.Done b ins base stride w origin
+    abbrev told : memory.Ok b ins base stride w origin
     told = memory.moved-done b ins base stride w origin done
 
     inside : (i : ℕ) → operated ins b.state.control i ≡ true → Inside ins base stride b.state origin (length w) i
@@ -123,10 +119,8 @@ module _ (ins : Instruction) (base stride : ℕ) (b : Marked) (origin : ℕ) (w 
 
   -- that has to be done
   does : allowed (length w) origin ≡ true → ((i : ℕ) → operated ins b.state.control i ≡ true → Inside ins base stride b.state origin (length w) i)
-      → (moved_of b ins base stride w origin).answer ≡ Done 0
-  does window inside =
-      memory.done-if b ins base stride w origin window
-      (λ i h c. let f = inside i c in record { aligned = f.aligned; from = f.from; to = let a = f.from in let b = f.to in omega arith })
+      → (moved_of b ins base stride w origin).answer ≡ Ok 0
+  does window inside = grind (arith, memory.done-if)
 
 -- ---- the call
 module _ (b : Marked) (opcode cntrl scalar base stride : ℕ) (w : List ℕ) (origin : ℕ) where
@@ -137,22 +131,18 @@ module _ (b : Marked) (opcode cntrl scalar base stride : ℕ) (w : List ℕ) (or
   Accepted-as ins = Accepts b.state opcode cntrl base stride w origin ins
 
   -- ---- what is done was accepted
-  off : (ins : Instruction) → decoded_of false false 0 opcode cntrl ≡ Accepted ins → ⊥
+  off : (ins : Instruction) → decoded_of false false 0 opcode cntrl ≡ Ok ins → ⊥
   unfolding decoded_of
-  off ins = by (opcode_of opcode)
-    where
-      by : (o : Opcode) → by_opcode false false 0 cntrl o ≡ Accepted ins → ⊥
-      by entry.Reserved h = let z : ◌≡◌ {A = ℕ} 0 1 = cc in omega arith
-      by (entry.Accepted w s) h = let z : ◌≡◌ {A = ℕ} 0 1 = cc in omega arith
+  off ins = grind arith
 
   module _ (ranged : in_range b.state.control ≡ true) where
-    carried-accepts : (ins : Instruction) → enabled b.state.control ≡ true → decoded_of true false 0 opcode cntrl ≡ Accepted ins
+    carried-accepts : (ins : Instruction) → enabled b.state.control ≡ true → decoded_of true false 0 opcode cntrl ≡ Ok ins
         → is_done (carried_out ins b scalar base stride w origin).answer ≡ true → Accepted-as ins
     unfolding carried_out
     carried-accepts ins on says done = by (is_memory ins.work) refl done
       where
         by : (t : Bool) → is_memory ins.work ≡ t
-            → is_done (pick t (moved_of b ins base stride w origin) (outcome (Done 0) (instruction_done ins scalar b, w))).answer ≡ true → Accepted-as ins
+            → is_done (pick t (moved_of b ins base stride w origin) (outcome (Ok 0) (instruction_done ins scalar b, w))).answer ≡ true → Accepted-as ins
         by true m done = record {
           ranged = ranged;
           on = on;
@@ -164,15 +154,15 @@ module _ (b : Marked) (opcode cntrl scalar base stride : ℕ) (w : List ℕ) (or
           ranged = ranged;
           on = on;
           says = says;
-          window = λ n. absurd (true-not-false (sym m ∙ n));
-          inside = λ n. absurd (true-not-false (sym m ∙ n));
+          window = λ n. cc;
+          inside = λ n. cc;
         }
 
     decoded-accepts : (e : Bool) → enabled b.state.control ≡ e → (d : Decoded) → decoded_of e false 0 opcode cntrl ≡ d
         → is_done (as_decoded d b scalar base stride w origin).answer ≡ true → (ins : Instruction) × Accepted-as ins
-    decoded-accepts e on (Refused a) is done = absurd (true-not-false (sym (refusal e false 0 opcode cntrl a is) ∙ done))
-    decoded-accepts true on (Accepted ins) is done = (ins, carried-accepts ins on is done)
-    decoded-accepts false on (Accepted ins) is done = absurd (off ins is)
+    decoded-accepts e on (Err refusal) is done = cc
+    decoded-accepts true on (Ok ins) is done = (ins, carried-accepts ins on is done)
+    decoded-accepts false on (Ok ins) is done = absurd (off ins is)
 
   abbrev made : Outcome (Marked × List ℕ)
   made = as_decoded (decoded_of (enabled b.state.control) false 0 opcode cntrl) b scalar base stride w origin
@@ -181,38 +171,31 @@ module _ (b : Marked) (opcode cntrl scalar base stride : ℕ) (w : List ℕ) (or
   unfolding executed_of
   was-accepted = by (in_range b.state.control) refl
     where
-      by : (t : Bool) → in_range b.state.control ≡ t → is_done (pick t made (refused_window OutOfRange b w)).answer ≡ true
+      by : (t : Bool) → in_range b.state.control ≡ t → is_done (pick t made (refused_window (Err OutOfRange) b w)).answer ≡ true
           → (ins : Instruction) × Accepted-as ins
       by true r done = decoded-accepts r (enabled b.state.control) refl (decoded_of (enabled b.state.control) false 0 opcode cntrl) refl done
-      by false r done = let z : ◌≡◌ {A = ℕ} 0 1 = cc in absurd (omega arith)
+      by false r done = cc
 
   -- ---- what is accepted is done
   module _ (ins : Instruction) (a : Accepted-as ins) where
     carries : executed ≡ carried_out ins b scalar base stride w origin
     unfolding executed_of
-    carries =
-        pick_true (in_range b.state.control) made (refused_window OutOfRange b w) a.ranged
-        ∙ ap (λ (e : Bool). as_decoded (decoded_of e false 0 opcode cntrl) b scalar base stride w origin) a.on
-        ∙ ap (λ (d : Decoded). as_decoded d b scalar base stride w origin) a.says
+    carries = grind arith
 
     -- a memory instruction moves; a register instruction is done
     moves-memory : is_memory ins.work ≡ true → executed ≡ moved_of b ins base stride w origin
     unfolding carried_out
-    moves-memory m = carries ∙ pick_true (is_memory ins.work) _ (outcome (Done 0) (instruction_done ins scalar b, w)) m
+    moves-memory m = grind (arith, carries)
 
-    is-register : is_memory ins.work ≡ false → executed ≡ outcome (Done 0) (instruction_done ins scalar b, w)
+    is-register : is_memory ins.work ≡ false → executed ≡ outcome (Ok 0) (instruction_done ins scalar b, w)
     unfolding carried_out
-    is-register m = carries ∙ pick-false (is_memory ins.work) (moved_of b ins base stride w origin) _ m
+    is-register m = grind (arith, carries)
 
-    moves-done : is_memory ins.work ≡ true → (moved_of b ins base stride w origin).answer ≡ Done 0
-    moves-done m = does ins base stride b origin w (a.window m) (a.inside m)
+    moves-done : is_memory ins.work ≡ true → (moved_of b ins base stride w origin).answer ≡ Ok 0
+    moves-done m = grind (arith, does)
 
-    gives : executed.answer ≡ Done 0
-    gives = by (is_memory ins.work) refl
-      where
-        by : (t : Bool) → is_memory ins.work ≡ t → executed.answer ≡ Done 0
-        by true m = ap (λ (o : Outcome (Marked × List ℕ)). o.answer) (moves-memory m) ∙ moves-done m
-        by false m = ap (λ (o : Outcome (Marked × List ℕ)). o.answer) (is-register m)
+    gives : executed.answer ≡ Ok 0
+    gives = grind (arith, moves-memory, moves-done, is-register)
 
     module _ (count : length b.state.elements ≡ 1024) where
       fields : Below ins
@@ -229,16 +212,16 @@ module _ (b : Marked) (opcode cntrl scalar base stride : ℕ) (w : List ℕ) (or
         where
           by : (t : Bool) → is_memory ins.work ≡ t → Left executed
           by true m = subst Left (sym (moves-memory m)) record {
-            elementwise = λ n. absurd (true-not-false (sym n ∙ m));
-            iota = λ n. absurd (true-not-false (sym n ∙ m));
+            elementwise = λ n. cc;
+            iota = λ n. cc;
             loads = λ _ e. loads ins base stride b origin w (ap is_done (moves-done m)) fields.vc count range.vlr e;
             stores = λ _ e. stores ins base stride b origin w (ap is_done (moves-done m)) e;
           }
           by false m = subst Left (sym (is-register m)) record {
             elementwise = λ _ e. (elementwise.leaves ins scalar b fields count e range.vlr range.vpsr, refl);
             iota = λ _ e. (counting.leaves ins scalar b fields count e range.vlr, refl);
-            loads = λ n. absurd (true-not-false (sym m ∙ n));
-            stores = λ n. absurd (true-not-false (sym m ∙ n));
+            loads = λ n. cc;
+            stores = λ n. cc;
           }
 
       register-wrote : is_memory ins.work ≡ false → Wrote ins (begun b) (whole_of ins scalar (begun b))
@@ -266,12 +249,7 @@ module _ (b : Marked) (opcode cntrl scalar base stride : ℕ) (w : List ℕ) (or
 
         marks : After executed
         unfolding instruction_done
-        marks = by (is_memory ins.work) refl (is_store ins.work) refl
-          where
-            by : (t : Bool) → is_memory ins.work ≡ t → (u : Bool) → is_store ins.work ≡ u → After executed
-            by true m true e = subst After (sym (moves-memory m)) (store-marks m e)
-            by true m false e = subst After (sym (moves-memory m)) (load-marks m e)
-            by false m u e = subst After (sym (is-register m)) ((register-wrote m).marks sixteen)
+        marks = grind (arith, moves-memory, store-marks, load-marks, is-register, register-wrote)
 
       -- ---- what was not written is kept
       abbrev Keeps : Outcome (Marked × List ℕ) → Type 0

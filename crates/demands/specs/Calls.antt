@@ -3,8 +3,7 @@
 -- control record stands here as its five numbers, which to C are the same. The floating operations give no number, and have no line.
 use Rattle.std.specs.Prelude.{Bool, List, ℕ}
 use Rattle.state.specs.declared.Control.{Control}
-use Rattle.state.specs.declared.answer.Answer.{Answer}
-use Rattle.state.specs.Answer.{numbers}
+use Rattle.state.specs.Answer.{Answer, numbers}
 use Rattle.state.specs.Marks.{Marked}
 use Rattle.state.specs.Outcome.{Outcome, given}
 use Rattle.state.specs.State.{State}

@@ -1,11 +1,10 @@
 -- Document 02, "Which elements were written" (Q-3): "From new marks, handed on unchanged from call to call, a bit is one exactly when, since the last clear,
 -- a file was loaded or an accepted instruction wrote that element". Said of any sequence of the public calls, refused ones and those that touch no mark
 -- among them, whatever else is lent to each. What an instruction wrote is `wrote` of specs/Written.antt, in which no mark stands.
-use Rattle.std.specs.Prelude.{true, false, List, [], ◌∷◌, ◌⊎◌, ◌↔◌, ◌≡◌, ℕ, ◌<◌, length, get_or, take}
+use Rattle.std.specs.Prelude.{true, false, List, [], ◌∷◌, ◌⊎◌, ◌↔◌, ◌≡◌, ℕ, ◌<◌, length, get_or, take, Ok}
 use Rattle.state.specs.Elements.{at}
 use Rattle.state.specs.Marks.{Marked, no_marks}
 use Rattle.opcodes.specs.declared.Instruction.{Instruction}
-use Rattle.opcodes.specs.declared.Decoded.TheVariants.{Accepted}
 use Rattle.opcodes.specs.Decoding.{decoded_of}
 use Rattle.machine.specs.Run.{begun}
 use Rattle.order.specs.Order.{run as walk}
@@ -66,7 +65,7 @@ kind_of (decode enabled within place opcode cntrl) = nothing
 -- it loads a file, or an instruction of it wrote element i of register r
 abbrev pub KindWrote : Kind → Lent → ℕ → ℕ → Type 0
 KindWrote (instruction opcode cntrl) l r i =
-    (ins : Instruction) × (decoded_of true false 0 opcode cntrl ≡ Accepted ins) × (wrote ins (lent_state l).control r i ≡ true)
+    (ins : Instruction) × (decoded_of true false 0 opcode cntrl ≡ Ok ins) × (wrote ins (lent_state l).control r i ≡ true)
 KindWrote (queued q) l r i = QueueWrote q (lent_marked l) r i
 KindWrote (listed q list) l r i = ListWrote q list (lent_marked l) r i
 KindWrote file l r i = Unit {0}

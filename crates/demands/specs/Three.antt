@@ -1,9 +1,9 @@
 -- Document 01, "Queues and orders". DEMAND 3, for any state, any queue that is accepted there and any list; the calls by a list promise it themselves
 -- (queue::run_order, kuj_run_order). Document 02, Q-3: "Demand 3 now includes the marks". And what is said of a run's end and of an empty queue.
-use Rattle.std.specs.Prelude.{true, List, [], ◌≡◌, ℕ, eqb}
+use Rattle.std.specs.Prelude.{true, List, [], ◌≡◌, ℕ, eqb, Ok, Err}
 use Rattle.std.specs.Int.Bits.{bit_or}
 use Rattle.numbers.specs.Choice.{pick}
-use Rattle.state.specs.declared.answer.Answer.TheVariants.{Done, Disabled}
+use Rattle.state.specs.declared.answer.Refusal.TheVariants.{Disabled}
 use Rattle.state.specs.Answer.{number_of, beside_of, is_done}
 use Rattle.state.specs.Outcome.{outcome}
 use Rattle.state.specs.Marks.{Marked}
@@ -33,7 +33,7 @@ pub record Ends (q : Queue) (b : Marked) : Type 0 where
   -- the state is in range
   pub in-range : in_range (ran_through q b).state.control ≡ true
   -- "So after an exception a second call gets 3": of any well-formed queue
-  pub second_call : (vaer_gets q b ≡ 0 → ⊥) → (q' : Queue) → well_formed q' ≡ true → acceptance (ran_through q b).state.control q' ≡ Disabled
+  pub second_call : (vaer_gets q b ≡ 0 → ⊥) → (q' : Queue) → well_formed q' ≡ true → acceptance (ran_through q b).state.control q' ≡ Err Disabled
 
 abbrev pub RunEnds : Queue → Marked → Type 0
 RunEnds q b = is_done (acceptance b.state.control q) ≡ true → Ends q b
@@ -43,7 +43,7 @@ abbrev pub empty_queue : Queue
 empty_queue = queue [] [] []
 
 abbrev pub EmptyQueue : Marked → Type 0
-EmptyQueue b = in_range b.state.control ≡ true → enabled b.state.control ≡ true → queue_run empty_queue b ≡ outcome (Done 0) b
+EmptyQueue b = in_range b.state.control ≡ true → enabled b.state.control ≡ true → queue_run empty_queue b ≡ outcome (Ok 0) b
 
 abbrev pub EmptyList : Marked → Type 0
-EmptyList b = in_range b.state.control ≡ true → enabled b.state.control ≡ true → ordered_run empty_queue [] b ≡ outcome (Done 0) b
+EmptyList b = in_range b.state.control ≡ true → enabled b.state.control ≡ true → ordered_run empty_queue [] b ≡ outcome (Ok 0) b

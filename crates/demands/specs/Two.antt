@@ -1,20 +1,18 @@
 -- DEMAND 2: when an instruction is done, and what it then leaves, said from its entry state; and the two round trips of saving and loading. Document 01,
 -- "What an element receives" and "Memory": masked elements, those at or past VLR and everything else are as they were. Document 02, Q-3: and the marks that
 -- it adds.
-use Rattle.std.specs.Prelude.{true, false, not, ◌&&◌, List, ◌++◌, ◌⊎◌, ◌↔◌, ◌≡◌, ℕ, zero, suc, ◌+◌, ◌-◌, ◌*◌, ◌/◌, ◌%◌, ◌^◌, ◌≤◌, ◌<◌, eqb, length, get_or, take, drop}
+use Rattle.std.specs.Prelude.{true, false, not, ◌&&◌, List, ◌++◌, ◌⊎◌, ◌↔◌, ◌≡◌, ℕ, zero, suc, ◌+◌, ◌-◌, ◌*◌, ◌/◌, ◌%◌, ◌^◌, ◌≤◌, ◌<◌, eqb, length, get_or, take, drop, Ok}
 use Rattle.std.specs.Int.Bits.{bit_or}
 use Rattle.numbers.specs.Bits.{bit}
 use Rattle.numbers.specs.Bytes.{Bytes}
 use Rattle.numbers.specs.Choice.{pick}
 use Rattle.numbers.specs.Halves.{low, with_low}
-use Rattle.state.specs.declared.answer.Answer.TheVariants.{Done}
 use Rattle.state.specs.Answer.{is_done}
 use Rattle.state.specs.Marks.{Marked, marked, no_marks}
 use Rattle.state.specs.Outcome.{outcome}
 use Rattle.state.specs.State.{State, in_range, enabled}
 use Rattle.state.specs.Elements.{at, matches}
 use Rattle.opcodes.specs.declared.Instruction.{Instruction}
-use Rattle.opcodes.specs.declared.Decoded.TheVariants.{Accepted}
 use Rattle.opcodes.specs.Opcodes.{is_memory, writes_mask, in_one_step}
 use Rattle.opcodes.specs.Decoding.{decoded_of}
 use Rattle.opcodes.specs.Masking.{operated}
@@ -128,7 +126,7 @@ module _ (ins : Instruction) (base stride : ℕ) (s : State) (origin : ℕ) wher
 pub record Accepts (s : State) (opcode cntrl base stride : ℕ) (w : List ℕ) (origin : ℕ) (ins : Instruction) : Type 0 where
   pub ranged : in_range s.control ≡ true
   pub on : enabled s.control ≡ true
-  pub says : decoded_of true false 0 opcode cntrl ≡ Accepted ins
+  pub says : decoded_of true false 0 opcode cntrl ≡ Ok ins
   pub window : is_memory ins.work ≡ true → allowed (length w) origin ≡ true
   pub inside : is_memory ins.work ≡ true → (i : ℕ) → operated ins s.control i ≡ true → Inside ins base stride s origin (length w) i
 
@@ -145,7 +143,7 @@ pub record OneInstruction (b : Marked) (opcode cntrl scalar base stride : ℕ) (
       ↔ ((ins : Instruction) × Accepts b.state opcode cntrl base stride w origin ins)
   -- and then it gives 0 with 0 beside it, and leaves this, of a state of 1,024 elements and of sixteen marks
   pub gives : (ins : Instruction) → Accepts b.state opcode cntrl base stride w origin ins
-      → (executed_of b opcode cntrl scalar base stride w origin).answer ≡ Done 0
+      → (executed_of b opcode cntrl scalar base stride w origin).answer ≡ Ok 0
   pub leaves : length b.state.elements ≡ 1024 → (ins : Instruction) → Accepts b.state opcode cntrl base stride w origin ins
       → Leaves ins scalar base stride b.state w origin (executed_of b opcode cntrl scalar base stride w origin).left.0.state
       (executed_of b opcode cntrl scalar base stride w origin).left.1
@@ -161,13 +159,13 @@ pub record OneInstruction (b : Marked) (opcode cntrl scalar base stride : ℕ) (
 abbrev pub LoadsAgain : State → Type 0
 LoadsAgain s =
     Held s → (old : State) (room : List ℕ) → length old.elements ≡ 1024 → 16464 ≤ length room
-    → ((saving s room).answer ≡ Done 0) × (loading (take 16464 (saving s room).left) old ≡ outcome (Done 0) s)
+    → ((saving s room).answer ≡ Ok 0) × (loading (take 16464 (saving s room).left) old ≡ outcome (Ok 0) s)
 
 -- and a file that loads is the one its state would save
 abbrev pub SavesAgain : List ℕ → Type 0
 SavesAgain file =
-    Bytes file → (old s : State) (room : List ℕ) → length old.elements ≡ 1024 → loading file old ≡ outcome (Done 0) s → 16464 ≤ length room
-    → saving s room ≡ outcome (Done 0) (file ++ drop 16464 room)
+    Bytes file → (old s : State) (room : List ℕ) → length old.elements ≡ 1024 → loading file old ≡ outcome (Ok 0) s → 16464 ≤ length room
+    → saving s room ≡ outcome (Ok 0) (file ++ drop 16464 room)
 
 -- ---- DEMAND 2, whole
 pub record DemandTwo : Type 0 where

@@ -18,9 +18,10 @@ use Rattle.floating.specs.declared.Compared.{Compared}
 use Rattle.floating.specs.declared.Delivery.{Delivery}
 use Rattle.floating.specs.declared.Delivery.TheVariants.{Word, Overflow, Underflow, Reserved, DivisionByZero, ReservedByZero}
 use Rattle.floating.specs.Operations.{answered, sum, difference, product, quotient, compared, to_longword, rounded_longword, truncated_longword, from_longword}
-use Rattle.opcodes.specs.Works.{Work, NoWork, AddLongword, SubtractLongword, MultiplyLongword, CompareLongword, BitSet, ExclusiveOr, BitClear}
-use Rattle.opcodes.specs.Works.{ShiftRight, ShiftLeft, AddF, SubtractF, MultiplyF, DivideF, CompareF, Convert, Iota, Merge}
-use Rattle.opcodes.specs.Works.{LoadLongword, LoadQuadword, StoreLongword, StoreQuadword}
+use Rattle.opcodes.specs.declared.works.Work.{Work}
+use Rattle.opcodes.specs.declared.works.Work.TheVariants.{NoWork, AddLongword, SubtractLongword, MultiplyLongword, CompareLongword, BitSet, ExclusiveOr, BitClear}
+use Rattle.opcodes.specs.declared.works.Work.TheVariants.{ShiftRight, ShiftLeft, AddF, SubtractF, MultiplyF, DivideF, CompareF, Convert, Iota, Merge}
+use Rattle.opcodes.specs.declared.works.Work.TheVariants.{LoadLongword, LoadQuadword, StoreLongword, StoreQuadword}
 use Rattle.element.specs.Receives.{converted, result_of}
 
 abbrev answer : ℕ → ℕ → Flagged

@@ -9,9 +9,10 @@ use Rattle.floating.specs.Format.{F}
 use Rattle.floating.specs.Operations.{answered, sum, difference, product, quotient, compared, rounded_longword, truncated_longword, from_longword}
 use Rattle.floating.specs.declared.Flagged.{Flagged}
 use Rattle.floating.specs.declared.Compared.{Compared}
-use Rattle.opcodes.specs.Works.{Work, NoWork, AddLongword, SubtractLongword, MultiplyLongword, CompareLongword, BitSet, ExclusiveOr, BitClear}
-use Rattle.opcodes.specs.Works.{ShiftRight, ShiftLeft, AddF, SubtractF, MultiplyF, CompareF, Convert, Iota, Merge, LoadLongword, LoadQuadword}
-use Rattle.opcodes.specs.Works.{StoreLongword, StoreQuadword, DivideF}
+use Rattle.opcodes.specs.declared.works.Work.{Work}
+use Rattle.opcodes.specs.declared.works.Work.TheVariants.{NoWork, AddLongword, SubtractLongword, MultiplyLongword, CompareLongword, BitSet, ExclusiveOr, BitClear}
+use Rattle.opcodes.specs.declared.works.Work.TheVariants.{ShiftRight, ShiftLeft, AddF, SubtractF, MultiplyF, CompareF, Convert, Iota, Merge, LoadLongword, LoadQuadword}
+use Rattle.opcodes.specs.declared.works.Work.TheVariants.{StoreLongword, StoreQuadword, DivideF}
 use Rattle.element.specs.declared.Out.{Out}
 
 abbrev pub out : ℕ → ℕ → Out

@@ -1,30 +1,30 @@
 -- The works of one element in groups, each done by a function of its own: integer, logical and shift works and merge, which are short; floating sum
 -- and difference, which are two functions, one for special operands; floating product and quotient; convert; and compares. No public promise cites
 -- this.
-use Rattle.std.specs.Prelude.{Bool, List, [], ◌∷◌, ℕ}
+use Rattle.std.specs.Prelude.{Bool, true, false}
 use Rattle.numbers.specs.Choice.{pick}
-use Rattle.opcodes.specs.Working.{named}
-use Rattle.opcodes.specs.Works.{Work, AddF, SubtractF, MultiplyF, DivideF}
+use Rattle.opcodes.specs.declared.works.Work.{Work}
+use Rattle.opcodes.specs.declared.works.Work.TheVariants.{AddLongword, SubtractLongword, MultiplyLongword, CompareLongword, BitSet, ExclusiveOr, BitClear}
+use Rattle.opcodes.specs.declared.works.Work.TheVariants.{ShiftRight, ShiftLeft, AddF, SubtractF, MultiplyF, CompareF, Merge, DivideF}
 
--- the numbers of the short works: those that `element::short` has an arm for, and merge, which is what is left
-abbrev pub short_arms : List ℕ
-short_arms = 9 ∷ 8 ∷ 7 ∷ 6 ∷ 5 ∷ 3 ∷ 2 ∷ 1 ∷ []
+-- the short works
+abbrev pub is_short : Work → Bool
+is_short AddLongword = true
+is_short SubtractLongword = true
+is_short MultiplyLongword = true
+is_short BitSet = true
+is_short ExclusiveOr = true
+is_short BitClear = true
+is_short ShiftRight = true
+is_short ShiftLeft = true
+is_short Merge = true
+is_short _ = false
 
-abbrev pub short_works : List ℕ
-short_works = 16 ∷ short_arms
-
-abbrev pub is_short : ℕ → Bool
-is_short n = named short_works n
-
--- the numbers of the compares, likewise: F compare is what is left
-abbrev pub compare_arms : List ℕ
-compare_arms = 4 ∷ []
-
-abbrev pub compare_works : List ℕ
-compare_works = 13 ∷ compare_arms
-
-abbrev pub is_compare : ℕ → Bool
-is_compare n = named compare_works n
+-- the compares
+abbrev pub is_compare : Work → Bool
+is_compare CompareLongword = true
+is_compare CompareF = true
+is_compare _ = false
 
 -- the floating difference, or the sum
 abbrev pub sum_work : Bool → Work

@@ -7,13 +7,7 @@ ghost use Rattle.element.specs.Receives.{floating_out, compared_out, converted};
 
 use crate::Out;
 use numbers::halves;
-
-// Bits <31:0>.
-pub fn word(x: u64) -> u32
-    ensures { result ≡ low x }
-{
-    (x % 4294967296) as u32
-}
+use numbers::halves::longword;
 
 // A 32-bit result in the low half, with what it recorded.
 pub fn place(c: u64, x: floating::Flagged) -> Out
@@ -28,20 +22,20 @@ pub fn place(c: u64, x: floating::Flagged) -> Out
 pub fn multiply(exc: bool, a: u64, b: u64, c: u64) -> Out
     ensures { result ≡ floating_out c (answered exc (product F (low a) (low b))) }
 {
-    place(c, floating::multiply(word(a), word(b), exc))
+    place(c, floating::multiply(longword(a), longword(b), exc))
 }
 
 pub fn divide(exc: bool, a: u64, b: u64, c: u64) -> Out
     ensures { result ≡ floating_out c (answered exc (quotient F (low a) (low b))) }
 {
-    place(c, floating::divide(word(a), word(b), exc))
+    place(c, floating::divide(longword(a), longword(b), exc))
 }
 
 // The mask bit.
 pub fn compare(relation: u64, a: u64, b: u64) -> Out
     ensures { result ≡ compared_out (compared F relation (low a) (low b)) }
 {
-    let x = floating::compare((relation % 8) as u32, word(a), word(b));
+    let x = floating::compare((relation % 8) as u32, longword(a), longword(b));
     crate::mask_bit(x.bit, x.types as u64)
 }
 
@@ -49,13 +43,12 @@ pub fn compare(relation: u64, a: u64, b: u64) -> Out
 fn conversion_of(conversion: u64, exc: bool, b: u64) -> floating::Flagged
     ensures { result ≡ converted conversion exc b }
 {
-    if conversion == 5 {
-        return floating::rounded_longword(word(b), exc);
+    let word = longword(b);
+    match conversion {
+        5 => floating::rounded_longword(word, exc),
+        4 => floating::truncated_longword(word, exc),
+        _ => floating::from_longword(word),
     }
-    if conversion == 4 {
-        return floating::truncated_longword(word(b), exc);
-    }
-    floating::from_longword(word(b))
 }
 
 pub fn convert(conversion: u64, exc: bool, b: u64, c: u64) -> Out

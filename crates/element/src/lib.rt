@@ -1,17 +1,17 @@
 // What one element receives: every operation on plain numbers, in groups of works.
-#![tactic(auto)]
+#![tactic(auto, unfolding(crate::specs::Receives::result_of))]
 
 ghost use Rattle.std.specs.Prelude.{◌≡◌, Bool, true, false};
 ghost use Rattle.numbers.specs.Choice.{pick};
-ghost use Rattle.opcodes.specs.Works.{Convert};
-ghost use Rattle.opcodes.specs.Opcodes.{work_at};
+ghost use Rattle.opcodes.specs.declared.works.Work.TheVariants.{Convert};
 ghost use Rattle.numbers.specs.Halves.{low};
 ghost use Rattle.floating.specs.Format.{F};
 ghost use Rattle.floating.specs.Working.{is_special};
 ghost use Rattle.element.specs.Receives.{quiet as quiet_out, bit_out, result_of};
 ghost use Rattle.element.specs.Working.{is_short, sum_work, product_work, is_compare};
 
-use opcodes::works;
+use numbers::halves::longword;
+use opcodes::works::Work;
 
 mod float;
 mod integer;
@@ -35,28 +35,27 @@ fn quiet(value: u64) -> Out
 fn mask_bit(t: bool, types: u64) -> Out
     ensures { result ≡ bit_out t types }
 {
-    if t {
-        Out { value: 1, types }
-    } else {
-        Out { value: 0, types }
+    Out {
+        value: u64::from(t),
+        types,
     }
 }
 
-// A short work of one element, by its number: integer, logical, shift or merge. Numbers and flags are
+// A short work of one element: integer, logical, shift or merge. Numbers and flags are
 // plain, so that the compiler can make a loop for each work.
-pub fn short(work: u8, exc: bool, matches: bool, a: u64, b: u64, c: u64) -> Out
+pub fn short(work: Work, exc: bool, matches: bool, a: u64, b: u64, c: u64) -> Out
     requires { is_short work ≡ true }
-    ensures { result ≡ result_of (work_at work) exc 0 matches a b c }
+    ensures { result ≡ result_of work exc 0 matches a b c }
 {
     match work {
-        works::ADD_LONGWORD => integer::add(exc, a, b, c),
-        works::SUBTRACT_LONGWORD => integer::subtract(exc, a, b, c),
-        works::MULTIPLY_LONGWORD => integer::multiply(exc, a, b, c),
-        works::BIT_SET => quiet(longword::bit_set(a, b)),
-        works::EXCLUSIVE_OR => quiet(longword::exclusive_or(a, b)),
-        works::BIT_CLEAR => quiet(longword::bit_clear(a, b)),
-        works::SHIFT_RIGHT => integer::shift_right(a, b, c),
-        works::SHIFT_LEFT => integer::shift_left(a, b, c),
+        Work::AddLongword => integer::add(exc, a, b, c),
+        Work::SubtractLongword => integer::subtract(exc, a, b, c),
+        Work::MultiplyLongword => integer::multiply(exc, a, b, c),
+        Work::BitSet => quiet(longword::bit_set(a, b)),
+        Work::ExclusiveOr => quiet(longword::exclusive_or(a, b)),
+        Work::BitClear => quiet(longword::bit_clear(a, b)),
+        Work::ShiftRight => integer::shift_right(a, b, c),
+        Work::ShiftLeft => integer::shift_left(a, b, c),
         // Merge: the only short work that is left.
         _ => quiet(merged(matches, a, b)),
     }
@@ -66,7 +65,7 @@ pub fn short(work: u8, exc: bool, matches: bool, a: u64, b: u64, c: u64) -> Out
 pub fn is_special(a: u64, b: u64) -> bool
     ensures { result ≡ is_special F (low a) (low b) }
 {
-    floating::is_special(float::word(a), float::word(b))
+    floating::is_special(longword(a), longword(b))
 }
 
 // The floating sum of one element, or the difference, where an operand is zero or reserved.
@@ -76,7 +75,7 @@ pub fn special_sum_or_difference(minus: bool, a: u64, b: u64, c: u64) -> Out
 {
     float::place(
         c,
-        floating::special_sum_or_difference(minus, float::word(a), float::word(b)),
+        floating::special_sum_or_difference(minus, longword(a), longword(b)),
     )
 }
 
@@ -87,7 +86,7 @@ pub fn common_sum_or_difference(minus: bool, exc: bool, a: u64, b: u64, c: u64) 
 {
     float::place(
         c,
-        floating::common_sum_or_difference(minus, float::word(a), float::word(b), exc),
+        floating::common_sum_or_difference(minus, longword(a), longword(b), exc),
     )
 }
 
@@ -108,13 +107,13 @@ pub fn converted(exc: bool, conversion: u64, b: u64, c: u64) -> Out
     float::convert(conversion, exc, b, c)
 }
 
-// The compare of one element, by its number: longword, or F.
-pub fn compared(work: u8, relation: u64, a: u64, b: u64) -> Out
+// The compare of one element: longword, or F.
+pub fn compared(work: Work, relation: u64, a: u64, b: u64) -> Out
     requires { is_compare work ≡ true }
-    ensures { result ≡ result_of (work_at work) false relation false a b 0 }
+    ensures { result ≡ result_of work false relation false a b 0 }
 {
     match work {
-        works::COMPARE_LONGWORD => integer::compare(relation, a, b),
+        Work::CompareLongword => integer::compare(relation, a, b),
         // F: the only compare that is left.
         _ => float::compare(relation, a, b),
     }

@@ -1,8 +1,9 @@
 -- Further rows, document 01, "Saved state and readings".
+use Rattle.std.specs.Prelude.{Err}
 use mathlib.Core.List.{List, [], ◌∷◌, ◌++◌}
 use Prim.Native.Nat.{ℕ, zero, suc, ◌/◌, ◌%◌}
 use lib.ListN.{replicate}
-use Rattle.state.specs.declared.answer.Answer.TheVariants.{OrderRefused}
+use Rattle.state.specs.declared.answer.Refusal.TheVariants.{OrderRefused}
 use Rattle.demands.specs.Calls.{Lent, lent, reading, save, load, list_state, list_file, list_answer, print_run}
 use Rattle.examples.proofs.Rows.{Row, puts, v, holding, enabled, control, state, state_and, a4, done, refuses, marks_none}
 
@@ -120,10 +121,10 @@ texts =
     ∷ puts (list_file []) (room [] 25663) (0, 13) (room (98 ∷ 97 ∷ 100 ∷ 32 ∷ 114 ∷ 101 ∷ 99 ∷ 111 ∷ 114 ∷ 100 ∷ 32 ∷ 48 ∷ 10 ∷ []) 25650)
     ∷ puts (print_run []) (room [] 25705) (0, 5) (room (49 ∷ 48 ∷ 32 ∷ 48 ∷ 10 ∷ []) 25700)
     -- the line of an answer, 9 128
-    ∷ puts (list_answer (OrderRefused 128)) (room [] 42) (0, 6) (room (57 ∷ 32 ∷ 49 ∷ 50 ∷ 56 ∷ 10 ∷ []) 36)
+    ∷ puts (list_answer (Err (OrderRefused 128))) (room [] 42) (0, 6) (room (57 ∷ 32 ∷ 49 ∷ 50 ∷ 56 ∷ 10 ∷ []) 36)
     -- with less room than every text of its kind takes, 10, and nothing is written
     ∷ refuses list_state (room [] 25662) 10 0
     ∷ refuses (list_file []) (room [] 25662) 10 0
     ∷ refuses (print_run []) (room [] 25704) 10 0
-    ∷ refuses (list_answer (OrderRefused 128)) (room [] 41) 10 0
+    ∷ refuses (list_answer (Err (OrderRefused 128))) (room [] 41) 10 0
     ∷ []

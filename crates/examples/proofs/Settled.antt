@@ -5,8 +5,7 @@ use Prim.Native.Nat.{ℕ}
 use lib.ListN.{replicate}
 use Rattle.touch.specs.Parts.{Queue}
 use Rattle.demands.specs.Calls.{Lent, lent, run_order}
-use Rattle.examples.proofs.Rows.{Row, Cell, v, enabled, masked, control, stopped, state, state_and}
-use Rattle.examples.proofs.Rows.{done, refuses, operate, move, becomes, gives, records, two}
+use Rattle.examples.proofs.Rows.{Row, Cell, v, enabled, masked, control, stopped, state, state_and, done, refuses, operate, move, becomes, gives, records, two}
 
 -- 1's registers: V2 = 7FFFFFFF, 4, and V5 of these two and then 9
 abbrev with-5 : (a b : ℕ) → List ℕ → Lent

@@ -9,7 +9,7 @@ use Rattle.state.specs.State.{in_range}
 use Rattle.state.specs.Outcome.{after_refusal}
 use Rattle.control.specs.Moves.{read_when, write_when, vpsr_taken}
 use Rattle.opcodes.specs.Works.{row_of}
-use Rattle.opcodes.specs.Opcodes.{opcode_of, work_at, row_at}
+use Rattle.opcodes.specs.Opcodes.{opcode_of}
 use Rattle.opcodes.specs.ControlWord.{refused, control_word_of}
 use Rattle.opcodes.specs.Decoding.{decoded_of}
 use Rattle.opcodes.specs.Masking.{operated}
@@ -83,7 +83,7 @@ table = (settled ++ further) ++ whole
 settled-hold : Holds (settled ++ further)
 unfolding called control_of control_into left executed field_read read_when write_when vpsr_taken field_answer in_range after_refusal
     saving loading loading_marked accepted leading good_record good_part contents_in_range
-    executed_of carried_out opcode_of decoded_of refused control_word_of row_at row_of work_at
+    executed_of carried_out opcode_of decoded_of refused control_word_of row_of
     instruction_done whole_of steps_below step_of element_step operated worked received result_of written joined ended notes iota_step walked turned matching
     sum_of difference_of product_of signed low32 overflows negative is_zero relation_holds delivered rounded size
     moved_of allowed rising test_of test_step load_step mark_step store_step

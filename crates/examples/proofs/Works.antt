@@ -1,8 +1,7 @@
 -- Further rows: each of the 40 opcodes, with a result that no other work and no other form would give; and what an opcode or a control word says.
 use mathlib.Core.List.{List, [], ◌∷◌}
 use Prim.Native.Nat.{ℕ}
-use Rattle.examples.proofs.Rows.{Row, enabled, masked, control, state, state_and, done}
-use Rattle.examples.proofs.Rows.{refuses, marks, marks_none, operate, move, three, becomes, gives}
+use Rattle.examples.proofs.Rows.{Row, enabled, masked, control, state, state_and, done, refuses, marks, marks_none, operate, move, three, becomes, gives}
 
 -- V1[0] is 6, V2[0] is 80000103, V3[0] is 9 and the scalar 11, each with a high half of its own
 abbrev longwords : (opcode r : ℕ) → Row

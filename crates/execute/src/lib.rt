@@ -3,7 +3,8 @@
 
 ghost use Rattle.std.specs.Prelude.{◌≡◌, true, ◌≤◌};
 ghost use Rattle.state.specs.Marks.{marked};
-ghost use Rattle.state.specs.Outcome.{outcome};
+ghost use Rattle.state.specs.Answer.{answered};
+ghost use Rattle.state.specs.Outcome.{outcome, control_left};
 ghost use Rattle.state.specs.State.{state as state_of};
 ghost use Rattle.opcodes.specs.Working.{Below, in_table, is_register_work};
 ghost use Rattle.machine.specs.Instruction.{instruction_done};
@@ -12,9 +13,9 @@ ghost use Rattle.execute.specs.Execute.{carried_out, executed_of};
 use machine::{instruction, run};
 use memory;
 use opcodes;
-use opcodes::{Decoded, Instruction, works};
-use state::answer::{Answer, Ended};
-use state::{Control, answer};
+use opcodes::Instruction;
+use state::Control;
+use state::answer::Refusal;
 
 // A register instruction by itself.
 fn register(
@@ -31,6 +32,7 @@ fn register(
 }
 
 // An instruction that passed the checks.
+#[tactic(auto, unfolding(crate::specs::Execute::carried_out))]
 fn carry_out(
     elements: &mut [u64; 1024],
     marks: &mut [u64; 16],
@@ -41,11 +43,11 @@ fn carry_out(
     stride: u32,
     window: &mut [u8],
     origin: u64,
-) -> Ended
+) -> Result<Control, Refusal>
     requires { Below instruction × (in_table instruction.work ≡ true) × (control.vlr ≤ 64) }
-    ensures { outcome result.answer (marked (state_of elements.new result.control) marks.new, window.new) ≡ carried_out instruction (marked (state_of elements.old control) marks.old) scalar base stride window.old origin }
+    ensures { outcome (answered result) (marked (state_of elements.new (control_left control result)) marks.new, window.new) ≡ carried_out instruction (marked (state_of elements.old control) marks.old) scalar base stride window.old origin }
 {
-    if works::is_memory(instruction.work) {
+    if instruction.work.is_memory() {
         return memory::transfer(
             elements,
             marks,
@@ -57,13 +59,11 @@ fn carry_out(
             origin,
         );
     }
-    Ended {
-        answer: Answer::Done(0),
-        control: register(elements, marks, control, instruction, scalar),
-    }
+    Ok(register(elements, marks, control, instruction, scalar))
 }
 
 // One instruction.
+#[tactic(auto, unfolding(crate::specs::Execute::executed_of, state::specs::Outcome::after_refusal))]
 pub fn execute(
     elements: &mut [u64; 1024],
     marks: &mut [u64; 16],
@@ -75,25 +75,22 @@ pub fn execute(
     stride: u32,
     window: &mut [u8],
     origin: u64,
-) -> Ended
-    ensures { outcome result.answer (marked (state_of elements.new result.control) marks.new, window.new) ≡ executed_of (marked (state_of elements.old control) marks.old) opcode cntrl scalar base stride window.old origin }
+) -> Result<Control, Refusal>
+    ensures { outcome (answered result) (marked (state_of elements.new (control_left control result)) marks.new, window.new) ≡ executed_of (marked (state_of elements.old control) marks.old) opcode cntrl scalar base stride window.old origin }
 {
     if !state::in_range(control) {
-        return answer::refused(Answer::OutOfRange, control);
+        return Err(Refusal::OutOfRange);
     }
-    let decoded = opcodes::decode(state::enabled(control), false, 0, opcode, cntrl);
-    match decoded {
-        Decoded::Refused(refusal) => answer::refused(refusal, control),
-        Decoded::Accepted(instruction) => carry_out(
-            elements,
-            marks,
-            control,
-            instruction,
-            scalar,
-            base,
-            stride,
-            window,
-            origin,
-        ),
-    }
+    let instruction = opcodes::decode(state::enabled(control), false, 0, opcode, cntrl)?;
+    carry_out(
+        elements,
+        marks,
+        control,
+        instruction,
+        scalar,
+        base,
+        stride,
+        window,
+        origin,
+    )
 }

@@ -1,9 +1,9 @@
 -- Digits that the code moves up, cuts off and adds: the whole part of a sum and of a difference, over the number of digits. Assumes nothing.
-use Rattle.std.proofs.Common.{◌≡◌, ℕ, zero, suc, ◌+◌, ◌-◌, ◌*◌, ◌/◌, ◌%◌, ◌^◌, ◌<◌, ◌≤◌, Bool, true, false, not, T, eqb, ltb, ◌⊎◌, sym, refl, ap, ◌∙◌, subst, inl, inr, le_trans, le_of_eq, lt_of_lt_of_le, lt_of_le_of_lt, le_of_lt, mul-le-mul_right, mod-lt, mod-eq_of_lt, mul_assoc, suc-mul, mul_comm, div-lt_iff_lt-mul, add-mul, eq-zero-or-pos, mul-le-mul, mul-le-mul_left, mul-lt-mul_of_pos_right, one-mul, div-add-mod', le-div_iff_mul-le, zero-mul, mul-one, div-le_self, mul_right_comm, arith, ltb→lt, nltb→le, pow_pos, pow_mono, pow-add}
+use Rattle.std.proofs.Common.{◌≡◌, ℕ, zero, suc, ◌+◌, ◌-◌, ◌*◌, ◌/◌, ◌%◌, ◌^◌, ◌<◌, ◌≤◌, min, Bool, true, false, not, T, eqb, ltb, ◌⊎◌, sym, refl, ap, ◌∙◌, subst, inl, inr, le_trans, le_of_eq, lt_of_lt_of_le, lt_of_le_of_lt, le_of_lt, mul-le-mul_right, mod-lt, mul_assoc, suc-mul, mul_comm, div-lt_iff_lt-mul, add-mul, eq-zero-or-pos, mul-le-mul, mul-le-mul_left, mul-lt-mul_of_pos_right, one-mul, div-add-mod', le-div_iff_mul-le, zero-mul, mul-one, div-le_self, mul_right_comm, arith, ltb→lt, nltb→le, pow_pos, pow_mono, pow-add}
 use native.Mathlib.Nat.{mul-add-div_right}
 use native.Mathlib.Nat.{zero-div}
 use lib.Arith.{digits_div}
-use lib.Pow.{pow-lt}
+use Rattle.std.specs.Int.{from_bool}
 use lib.Count.{count_leading_zeros, leading_top}
 use Rattle.numbers.specs.Choice.{pick}
 use Rattle.floating.specs.Working.{joint}
@@ -62,10 +62,6 @@ module _ (x z y : ℕ) (small : z < 2) (hy : y ≡ pick (eqb z 1) x 0) where
       go true = omega arith
       go false = omega arith
 
--- `1 << k`
-pub one_shl : (k : ℕ) → k < 64 → (1 * 2 ^ k) % 2 ^ 64 ≡ 2 ^ k
-one_shl k h = ap (λ (z : ℕ). z % 2 ^ 64) (one-mul (2 ^ k)) ∙ mod-eq_of_lt (pow-lt h)
-
 -- all digits cut off
 none_left : (c x d : ℕ) → x < 2 ^ c → c ≤ d → 0 ≡ x / 2 ^ d
 none_left c x d h l =
@@ -73,20 +69,14 @@ none_left c x d h l =
     omega arith
 
 -- so of c digits no more than c have to be
-module _ (c d e : ℕ) (he : e ≡ pick (ltb d c) d c) where
-  pub cut_off : (x r : ℕ) → x < 2 ^ c → r ≡ x / 2 ^ e → r ≡ x / 2 ^ d
-  cut_off x r h hr = hr ∙ ap (λ (z : ℕ). x / 2 ^ z) he ∙ go (ltb d c) (nltb→le d c)
-    where
-      go : (t : Bool) → (T (not t) → c ≤ d) → x / 2 ^ pick t d c ≡ x / 2 ^ d
-      go true l = refl
-      go false l = sym (none_left c x c h (le_of_eq refl)) ∙ none_left c x d h (l tt)
-
-  pub cut-few : c < 64 → e < 64
-  cut-few h = subst (λ (z : ℕ). z < 64) (sym he) (go (ltb d c) (ltb→lt d c))
-    where
-      go : (t : Bool) → (T t → d < c) → pick t d c < 64
-      go true l = let k : d < c = l tt in omega arith
-      go false l = h
+pub cut_off : (c d e x : ℕ) → e ≡ min d c → x < 2 ^ c → x / 2 ^ e ≡ x / 2 ^ d
+cut_off c d e x he h = go (eq-zero-or-pos (c - d))
+  where
+    go : (c - d ≡ 0) ⊎ (0 < c - d) → x / 2 ^ e ≡ x / 2 ^ d
+    go (inl z) =
+        let k : e ≡ c = omega arith in
+        ap (λ (i : ℕ). x / 2 ^ i) k ∙ sym (none_left c x c h (le_of_eq refl)) ∙ none_left c x d h (omega arith)
+    go (inr p) = let k : e ≡ d = omega arith in ap (λ (i : ℕ). x / 2 ^ i) k
 
 pub cut_small : (x d r : ℕ) → r ≡ x / 2 ^ d → r ≤ x
 cut_small x d r h = le_trans (le_of_eq h) (div-le_self x (2 ^ d))
@@ -143,21 +133,25 @@ cut-room n x r y d l hr h = go (eq-zero-or-pos n)
 pub times-unit : (u a b d : ℕ) → b ≤ a * 2 ^ d → b * u ≤ a * u * 2 ^ d
 times-unit u a b d h = le_trans (mul-le-mul_right u h) (le_of_eq (mul_right_comm a (2 ^ d) u))
 
--- ---- the code's one line for both: with o 1 what is cut off of b leaves one unit less
+-- a bool as a number
+pub one-bit : (t : Bool) → from_bool t < 2
+one-bit true = omega arith
+one-bit false = omega arith
+
+-- ---- the code's one line for both: in a difference, with o 1, what is cut off of b leaves one unit less
 module _ (u o a b d r : ℕ) (hr : r ≡ (b * u - o) / 2 ^ d) where
-  pub minus-cut : o ≡ 1 → 0 < b * u → b ≤ a * 2 ^ d → a * u - (o + r) ≡ joint o (a * 2 ^ d) b * u / 2 ^ d
+  pub minus-cut : o ≡ 1 → 0 < b * u → b ≤ a * 2 ^ d → a * u - (o + r) ≡ (a * 2 ^ d - b) * u / 2 ^ d
   minus-cut e some le =
       let q : r ≡ (b * u - 1) / 2 ^ d = hr ∙ ap (λ (z : ℕ). (b * u - z) / 2 ^ d) e in
       let h : a * u - (o + r) ≡ a * u - 1 - (b * u - 1) / 2 ^ d = omega arith in
-      h ∙ difference-cut a b u d some le ∙ sym (ap (λ (z : ℕ). joint z (a * 2 ^ d) b * u / 2 ^ d) e)
+      h ∙ difference-cut a b u d some le
 
-  pub plus-cut : (o ≡ 1 → ⊥) → o < 2 → a * u + (o + r) ≡ joint o (a * 2 ^ d) b * u / 2 ^ d
-  plus-cut n l =
-      let z : o ≡ 0 = omega (arith, n) in
+  pub plus-cut : o ≡ 0 → a * u + (o + r) ≡ (a * 2 ^ d + b) * u / 2 ^ d
+  plus-cut z =
       let w : b * u - o ≡ b * u = omega arith in
       let q : r ≡ b * u / 2 ^ d = hr ∙ ap (λ (y : ℕ). y / 2 ^ d) w in
       let h : a * u + (o + r) ≡ a * u + b * u / 2 ^ d = omega arith in
-      h ∙ sum-cut a b u d ∙ sym (ap (λ (y : ℕ). joint y (a * 2 ^ d) b * u / 2 ^ d) z)
+      h ∙ sum-cut a b u d
 
 -- ---- the product of two significands of p digits
 pub product-low : (p a b : ℕ) → 2 ^ (p - 1) ≤ a → 2 ^ (p - 1) ≤ b → 2 ^ (p - 1) * 2 ^ (p - 1) ≤ a * b
@@ -205,24 +199,24 @@ module _ (p a b d : ℕ) (P : 0 < p) (alo : 2 ^ (p - 1) ≤ a) (bhi : b < 2 ^ p)
       let e : 1 * 2 ^ d ≡ 2 ^ d = one-mul (2 ^ d) in
       quarter (a * 2 ^ d + b) (omega arith)
 
-  module _ (o x : ℕ) (hx : x ≡ joint o (a * 2 ^ d) b * 2 ^ (p + 2) / 2 ^ d) where
-    reached : 0 < joint o (a * 2 ^ d) b → 2 ^ p ≤ x
-    reached h = le_trans ((le-div_iff_mul-le (pow_pos d)).1 (joint-long (eqb o 1) h)) (le_of_eq (sym hx))
+  module _ (minus : Bool) (x : ℕ) (hx : x ≡ joint minus (a * 2 ^ d) b * 2 ^ (p + 2) / 2 ^ d) where
+    reached : 0 < joint minus (a * 2 ^ d) b → 2 ^ p ≤ x
+    reached h = le_trans ((le-div_iff_mul-le (pow_pos d)).1 (joint-long minus h)) (le_of_eq (sym hx))
 
     -- the whole part is 0 only of nothing
-    pub none-joint : x ≡ 0 → joint o (a * 2 ^ d) b ≡ 0
-    none-joint z = go (eq-zero-or-pos (joint o (a * 2 ^ d) b))
+    pub none-joint : x ≡ 0 → joint minus (a * 2 ^ d) b ≡ 0
+    none-joint z = go (eq-zero-or-pos (joint minus (a * 2 ^ d) b))
       where
-        go : (joint o (a * 2 ^ d) b ≡ 0) ⊎ (0 < joint o (a * 2 ^ d) b) → joint o (a * 2 ^ d) b ≡ 0
+        go : (joint minus (a * 2 ^ d) b ≡ 0) ⊎ (0 < joint minus (a * 2 ^ d) b) → joint minus (a * 2 ^ d) b ≡ 0
         go (inl e) = e
         go (inr h) = let l = reached h in let s = pow_pos p in absurd (omega arith)
 
     pub some-long : (x ≡ 0 → ⊥) → 2 ^ p ≤ x
-    some-long n = go (eq-zero-or-pos (joint o (a * 2 ^ d) b))
+    some-long n = go (eq-zero-or-pos (joint minus (a * 2 ^ d) b))
       where
         nothing : (y : ℕ) → y ≡ 0 → y * 2 ^ (p + 2) / 2 ^ d ≡ 0
         nothing y e = ap (λ (z : ℕ). z * 2 ^ (p + 2) / 2 ^ d) e ∙ ap (λ (z : ℕ). z / 2 ^ d) (zero-mul (2 ^ (p + 2))) ∙ zero-div (2 ^ d)
 
-        go : (joint o (a * 2 ^ d) b ≡ 0) ⊎ (0 < joint o (a * 2 ^ d) b) → 2 ^ p ≤ x
-        go (inl e) = absurd (n (hx ∙ nothing (joint o (a * 2 ^ d) b) e))
+        go : (joint minus (a * 2 ^ d) b ≡ 0) ⊎ (0 < joint minus (a * 2 ^ d) b) → 2 ^ p ≤ x
+        go (inl e) = absurd (n (hx ∙ nothing (joint minus (a * 2 ^ d) b) e))
         go (inr h) = reached h

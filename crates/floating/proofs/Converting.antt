@@ -32,7 +32,7 @@ multiple h y D P l =
 raised : (m e i j : ℕ) → i + j ≡ e → m * 2 ^ e ≡ m * 2 ^ i * 2 ^ j
 raised m e i j q = ap (λ (z : ℕ). m * 2 ^ z) (sym q) ∙ ap (λ (z : ℕ). m * z) (pow-add 2 i j) ∙ sym (mul_assoc m (2 ^ i) (2 ^ j))
 
-stands : {x n : ℕ} → x ≡ n → StandsFor x n
+pub stands : {x n : ℕ} → x ≡ n → StandsFor x n
 stands {x} {n} e = record { low = ap (λ (z : ℕ). z % 0x1_0000_0000) e; past = ap (ltb 0x7fff_ffff) e; past-least = ap (ltb 0x8000_0000) e }
 
 -- in units of 2 ^ -w
@@ -58,9 +58,6 @@ module _ (w e m h : ℕ) where
   no_fraction l hh =
       let q : e - w + w ≡ e = omega arith in
       ap (λ (z : ℕ). (z * 2 + h * 2 ^ w) / (2 ^ w * 2)) (raised m e (e - w) w q) ∙ multiple h (m * 2 ^ (e - w)) (2 ^ w) (pow_pos w) hh
-
-pub stands-large : (m p k : ℕ) → p ≡ 2 ^ k → StandsFor (m * p) (m * 2 ^ k)
-stands-large m p k hp = stands (ap (λ (z : ℕ). m * z) hp)
 
 -- from 2 ^ 32 on
 pub stands-huge : (m k : ℕ) → 0 < m → 32 ≤ k → StandsFor 4294967296 (m * 2 ^ k)
@@ -299,5 +296,5 @@ size_in l x n h z e hn = subst (λ (v : ℕ). (0 < v) × (v ≤ 2 ^ 31)) (sym hn
     go false g = let k : (l / 2 ^ 31 ≡ 1 → ⊥) = eqb-false (l / 2 ^ 31) 1 g in (omega (arith, z), omega (arith, k))
 
 -- ---- a significand moved up by at most 32 digits
-pub moved_up : (n m p k : ℕ) → m < 2 ^ n → p ≡ 2 ^ k → k ≤ 32 → m * p ≤ 2 ^ n * 2 ^ 32
-moved_up n m p k hm hp l = mul-le-mul (le_of_lt hm) (le_trans (le_of_eq hp) (pow_mono l))
+pub moved_up : (n m k : ℕ) → m < 2 ^ n → k ≤ 32 → m * 2 ^ k ≤ 2 ^ n * 2 ^ 32
+moved_up n m k hm l = mul-le-mul (le_of_lt hm) (pow_mono l)

@@ -1,30 +1,34 @@
 -- How two words lie to each other, by their signs and ranks. Assumes nothing.
 use Rattle.std.proofs.Common.{◌≡◌, ℕ, zero, suc, ◌+◌, ◌-◌, ◌*◌, ◌/◌, ◌%◌, ◌^◌, ◌<◌, ◌≤◌, Bool, true, false, not, ◌&&◌, ◌||◌, eqb, ltb, leb, ◌⊎◌, sym, refl, ap, ◌∙◌, ap₂, inl, inr, le_of_eq, le_of_lt, mul-le-mul_right, eq-zero-or-pos, mul-lt-mul_of_pos_right, mul-pos, one-mul, zero-mul, arith, pow_pos, le-ltb, lt-ltb, eq-eqb, ne_eqb, le-leb}
-use mathlib.Core.Bool.{beq}
 use lib.Arith.{digits_lt}
 use borrow.Author.Tests.{eqb-false, lt-leb}
+use Rattle.std.specs.declared.cmp.Ordering.{Ordering}
+use Rattle.std.specs.declared.cmp.Ordering.TheVariants.{Less, Equal, Greater}
+use Rattle.std.proofs.lemmas.Cmp.{nat_cmp_total}
+use Rattle.std.specs.Ordering.{nat_cmp, ordering_reverse, is_lt, is_eq, is_gt}
+use mathlib.Core.Bool.{beq}
 use Rattle.numbers.specs.Choice.{pick}
-use Rattle.numbers.specs.Relation.{relation_holds}
 use Rattle.numbers.proofs.Relations.{by_parts_lem}
+use Rattle.numbers.specs.Relation.{relation_holds}
 use Rattle.floating.specs.Format.{Format, F, sign_of, exponent_of, is_reserved}
+use Rattle.floating.specs.declared.Compared.{Compared}
 use Rattle.floating.specs.Exact.{Exact, size_of, value_of, minus}
 use Rattle.floating.specs.Operations.{compared}
-use Rattle.floating.specs.Working.{swapped, magnitude, magnitudes, ordinal, rank, level, side}
+use Rattle.floating.specs.Working.{swapped, magnitude, magnitudes, ordinal, rank, level, lies}
 use Rattle.floating.proofs.Packing.{Sound, sign-lt, exponent_lt, fraction-lt, swapped-split}
 use Rattle.floating.proofs.Magnitude.{size-pos, zero_rank, full-rank, rank_less, rank_same}
 use Rattle.floating.proofs.Sums.{Test, same, less, more, order, signs, together-same, together-more, together-less}
 
--- ---- the side of an exact number
-side-zero : (x : Exact) → x.num ≡ 0 → side x ≡ 1
-side-zero x h = simp (eq-eqb x.num 0 h)
+-- ---- how an exact number lies to zero
+-- one that is not zero, by its sign
+abbrev signed : ℕ → Ordering
+signed s = pick (eqb s 1) Less Greater
 
-side-some : (x : Exact) → (x.num ≡ 0 → ⊥) → x.sign < 2 → side x ≡ x.sign * 2
-side-some x n l = simp (ne_eqb x.num 0 n) (go x.sign l)
-  where
-    go : (s : ℕ) → s < 2 → pick (eqb s 1) 2 0 ≡ s * 2
-    go zero l = refl
-    go (suc zero) l = refl
-    go (suc (suc k)) l = absurd (omega arith)
+lies-zero : (x : Exact) → x.num ≡ 0 → lies x ≡ Equal
+lies-zero x h = simp (eq-eqb x.num 0 h)
+
+lies-some : (x : Exact) → (x.num ≡ 0 → ⊥) → lies x ≡ signed x.sign
+lies-some x n = simp (ne_eqb x.num 0 n)
 
 module _ (f : Format) (S : Sound f) where
   -- a number that is not reserved has sign 1 only with a size
@@ -58,13 +62,13 @@ module _ (f : Format) (S : Sound f) where
     abbrev y : ℕ
     y = size_of f b * unit
 
-    abbrev lies : ℕ
-    lies = side (minus (value_of f a) (value_of f b))
+    abbrev here : Ordering
+    here = lies (minus (value_of f a) (value_of f b))
 
-    sides_apart : (sa ≡ sb → ⊥) → sa * 2 ≡ lies
-    sides_apart n =
+    signs_apart : (sa ≡ sb → ⊥) → signed sa ≡ here
+    signs_apart n =
         let e : sa ≡ 1 - sb = omega (arith, n) in
-        sym (ap side (together-same sa x (1 - sb) y (unit * unit) e) ∙ side-some (exact sa (x + y)) (some (one_of (eq-zero-or-pos sa))) (sign-lt f a))
+        sym (ap lies (together-same sa x (1 - sb) y (unit * unit) e) ∙ lies-some (exact sa (x + y)) (some (one_of (eq-zero-or-pos sa))))
       where
         one_of : (sa ≡ 0) ⊎ (0 < sa) → (0 < x) ⊎ (0 < y)
         one_of (inl z) = inr (mul-pos (signed-size b rb (omega (arith, n))) (pow_pos (f.bits + f.excess)))
@@ -84,25 +88,25 @@ module _ (f : Format) (S : Sound f) where
       left_over : (m n : ℕ) → n < m → m - n ≡ 0 → ⊥
       left_over m n l z = omega arith
 
-      sides-equal : rank f a ≡ rank f b → 1 ≡ lies
-      sides-equal e =
+      ranks-equal : rank f a ≡ rank f b → Equal ≡ here
+      ranks-equal e =
           let z : x ≡ y = ap (λ (k : ℕ). k * unit) (rank_same f S a b e) in
-          sym (ap side (together-less sa x (1 - sb) y (unit * unit) differ (le_of_eq z)) ∙ side-zero (exact (1 - sb) (y - x)) (gone x y z))
+          sym (ap lies (together-less sa x (1 - sb) y (unit * unit) differ (le_of_eq z)) ∙ lies-zero (exact (1 - sb) (y - x)) (gone x y z))
         where
           gone : (m n : ℕ) → m ≡ n → n - m ≡ 0
           gone m n e = omega arith
 
-      sides-more : rank f b < rank f a → sa * 2 ≡ lies
-      sides-more l =
+      ranks-more : rank f b < rank f a → signed sa ≡ here
+      ranks-more l =
           let z : y < x = scaled (size_of f b) (size_of f a) (rank_less f S a b l) in
-          sym (ap side (together-more sa x (1 - sb) y (unit * unit) differ z) ∙ side-some (exact sa (x - y)) (left_over x y z) (sign-lt f a))
+          sym (ap lies (together-more sa x (1 - sb) y (unit * unit) differ z) ∙ lies-some (exact sa (x - y)) (left_over x y z))
 
-      sides-less : rank f a < rank f b → 2 - sa * 2 ≡ lies
-      sides-less l =
+      ranks-less : rank f a < rank f b → signed (1 - sa) ≡ here
+      ranks-less l =
           let z : x < y = scaled (size_of f a) (size_of f b) (rank_less f S b a l) in
-          let w : 2 - sa * 2 ≡ (1 - sb) * 2 = omega arith in
+          let w : 1 - sa ≡ 1 - sb = omega arith in
           let d = together-less sa x (1 - sb) y (unit * unit) differ (le_of_lt z) in
-          w ∙ sym (ap side d ∙ side-some (exact (1 - sb) (y - x)) (left_over y x z) (omega arith))
+          ap signed w ∙ sym (ap lies d ∙ lies-some (exact (1 - sb) (y - x)) (left_over y x z))
 
   -- ---- by the levels
   rank_lt : (w : ℕ) → rank f w < magnitudes f
@@ -148,46 +152,30 @@ module _ (f : Format) (S : Sound f) where
 pub level-made : (w t r : ℕ) → w < 2 ^ 32 → t ≡ swapped w → r ≡ pick (ltb t (2 ^ (F.bits - 1))) 0 t → r ≡ level F w
 level-made w t r l ht hr = hr ∙ ap (λ (z : ℕ). pick (ltb z (2 ^ (F.bits - 1))) 0 z) (ht ∙ swapped-split w l)
 
--- the code's number of a pair, which rises where the first is less
-module _ (x y p q : ℕ) (hp : p ≡ pick (ltb x y) 2 0) (hq : q ≡ pick (eqb x y) 1 0) where
-  rising-less : x < y → p + q ≡ 2
-  rising-less h =
-      let n : (x ≡ y → ⊥) = λ e. omega arith in
-      let a : p ≡ 2 = hp ∙ ap (λ (z : Bool). pick z 2 0) (lt-ltb x y h) in
-      let b : q ≡ 0 = hq ∙ ap (λ (z : Bool). pick z 1 0) (ne_eqb x y n) in
-      omega arith
+-- the order of two levels
+reversed : (i j : ℕ) → nat_cmp j i ≡ ordering_reverse (nat_cmp i j)
+reversed i j = nat_cmp_total.antisymm j i
 
-  rising-same : x ≡ y → p + q ≡ 1
-  rising-same e =
-      let a : p ≡ 0 = hp ∙ ap (λ (z : Bool). pick z 2 0) (le-ltb x y (le_of_eq (sym e))) in
-      let b : q ≡ 1 = hq ∙ ap (λ (z : Bool). pick z 1 0) (eq-eqb x y e) in
-      omega arith
+module _ (x y : ℕ) where
+  rising-less : x < y → nat_cmp x y ≡ Less
+  rising-less h = simp (lt-ltb x y h)
 
-  rising-more : y < x → p + q ≡ 0
-  rising-more h =
-      let n : (x ≡ y → ⊥) = λ e. omega arith in
-      let a : p ≡ 0 = hp ∙ ap (λ (z : Bool). pick z 2 0) (le-ltb x y (le_of_lt h)) in
-      let b : q ≡ 0 = hq ∙ ap (λ (z : Bool). pick z 1 0) (ne_eqb x y n) in
-      omega arith
+  rising-same : x ≡ y → nat_cmp x y ≡ Equal
+  rising-same e = simp (le-ltb x y (le_of_eq (sym e)), eq-eqb x y e)
 
-  pub rising-most : p + q ≤ 2
-  rising-most = go (order x y)
-    where
-      go : Test x y → p + q ≤ 2
-      go (same e) = let r = rising-same e in omega arith
-      go (less h) = let r = rising-less h in omega arith
-      go (more h) = let r = rising-more h in omega arith
+  rising-more : y < x → nat_cmp x y ≡ Greater
+  rising-more h = let n : (x ≡ y → ⊥) = λ e. omega arith in simp (le-ltb x y (le_of_lt h), ne_eqb x y n)
 
   -- numbers from n on have the sign
-  module _ (n r : ℕ) (hr : r ≡ pick (leb n x || leb n y) (2 - (p + q)) (p + q)) where
-    both-up : (k : ℕ) → x < n → y < n → p + q ≡ k → r ≡ k
+  module _ (n : ℕ) (r : Ordering) (hr : r ≡ pick (leb n x || leb n y) (ordering_reverse (nat_cmp x y)) (nat_cmp x y)) where
+    both-up : (k : Ordering) → x < n → y < n → nat_cmp x y ≡ k → r ≡ k
     both-up k hx hy e =
         hr
-        ∙ ap₂ (λ (s t : Bool). pick (s || t) (2 - (p + q)) (p + q)) (lt-leb n x hx) (lt-leb n y hy)
+        ∙ ap₂ (λ (s t : Bool). pick (s || t) (ordering_reverse (nat_cmp x y)) (nat_cmp x y)) (lt-leb n x hx) (lt-leb n y hy)
         ∙ e
 
-    one_down : (k : ℕ) → (leb n x || leb n y) ≡ true → p + q ≡ k → r ≡ 2 - k
-    one_down k t e = hr ∙ ap (λ (z : Bool). pick z (2 - (p + q)) (p + q)) t ∙ ap (λ (z : ℕ). 2 - z) e
+    one_down : (k : Ordering) → (leb n x || leb n y) ≡ true → nat_cmp x y ≡ k → r ≡ ordering_reverse k
+    one_down k t e = hr ∙ ap (λ (z : Bool). pick z (ordering_reverse (nat_cmp x y)) (nat_cmp x y)) t ∙ ap ordering_reverse e
 
     left_down : n ≤ x → (leb n x || leb n y) ≡ true
     left_down h = ap (λ (z : Bool). z || leb n y) (le-leb n x h)
@@ -207,39 +195,39 @@ module _ (x y p q : ℕ) (hp : p ≡ pick (ltb x y) 2 0) (hq : q ≡ pick (eqb x
       down : (k m i : ℕ) → k ≡ i * n + m → i ≡ 1 → k ≡ n + m
       down k m i e z = let g : i * n ≡ n = ap (λ (j : ℕ). j * n) z ∙ one-mul n in omega arith
 
-      by-signs : (s ≡ t → ⊥) → r ≡ s * 2
+      by-signs : (s ≡ t → ⊥) → r ≡ signed s
       by-signs d = go (eq-zero-or-pos s)
         where
-          go : (s ≡ 0) ⊎ (0 < s) → r ≡ s * 2
+          go : (s ≡ 0) ⊎ (0 < s) → r ≡ signed s
           go (inl z) =
               let a = up x u s hx z in
               let b = down y v t hy (omega (arith, d)) in
-              one_down 2 (right-down (omega arith)) (rising-less (omega arith)) ∙ ap (λ (k : ℕ). k * 2) (sym z)
+              one_down Less (right-down (omega arith)) (rising-less (omega arith)) ∙ ap signed (sym z)
           go (inr o) =
               let e : s ≡ 1 = omega arith in
               let a = down x u s hx e in
               let b = up y v t hy (omega (arith, d)) in
-              one_down 0 (left_down (omega arith)) (rising-more (omega arith)) ∙ ap (λ (k : ℕ). k * 2) (sym e)
+              one_down Greater (left_down (omega arith)) (rising-more (omega arith)) ∙ ap signed (sym e)
 
       -- either way
-      by-ranks : (k : ℕ) → s ≡ t → p + q ≡ k → r ≡ pick (eqb s 1) (2 - k) k
+      by-ranks : (k : Ordering) → s ≡ t → nat_cmp x y ≡ k → r ≡ pick (eqb s 1) (ordering_reverse k) k
       by-ranks k e w = go (eq-zero-or-pos s)
         where
-          go : (s ≡ 0) ⊎ (0 < s) → r ≡ pick (eqb s 1) (2 - k) k
+          go : (s ≡ 0) ⊎ (0 < s) → r ≡ pick (eqb s 1) (ordering_reverse k) k
           go (inl z) =
               let a = up x u s hx z in
               let b = up y v t hy (sym e ∙ z) in
-              both-up k (omega arith) (omega arith) w ∙ ap (λ (j : ℕ). pick (eqb j 1) (2 - k) k) (sym z)
+              both-up k (omega arith) (omega arith) w ∙ ap (λ (j : ℕ). pick (eqb j 1) (ordering_reverse k) k) (sym z)
           go (inr o) =
               let i : s ≡ 1 = omega arith in
               let a = down x u s hx i in
-              one_down k (left_down (omega arith)) w ∙ ap (λ (j : ℕ). pick (eqb j 1) (2 - k) k) (sym i)
+              one_down k (left_down (omega arith)) w ∙ ap (λ (j : ℕ). pick (eqb j 1) (ordering_reverse k) k) (sym i)
 
-module _ (f : Format) (S : Sound f) (a b x y p q r : ℕ) (na : is_reserved f a ≡ false) (nb : is_reserved f b ≡ false)
+module _ (f : Format) (S : Sound f) (a b x y : ℕ) (r : Ordering) (na : is_reserved f a ≡ false) (nb : is_reserved f b ≡ false)
     (hx : x ≡ level f a) (hy : y ≡ level f b) where
-  pub side-found : p ≡ pick (ltb x y) 2 0 → q ≡ pick (eqb x y) 1 0 → r ≡ pick (leb (magnitudes f) x || leb (magnitudes f) y) (2 - (p + q)) (p + q)
-      → r ≡ side (minus (value_of f a) (value_of f b))
-  side-found hp hq hr = go (signs s t) (order (rank f a) (rank f b))
+  order-found : r ≡ pick (leb (magnitudes f) x || leb (magnitudes f) y) (ordering_reverse (nat_cmp x y)) (nat_cmp x y)
+      → r ≡ lies (minus (value_of f a) (value_of f b))
+  order-found hr = go (signs s t) (order (rank f a) (rank f b))
     where
       s : ℕ
       s = sign_of f a
@@ -256,84 +244,109 @@ module _ (f : Format) (S : Sound f) (a b x y p q r : ℕ) (na : is_reserved f a 
       told : s ≡ t → s * magnitudes f ≡ t * magnitudes f
       told e = ap (λ (k : ℕ). k * magnitudes f) e
 
-      ranked : (k o : ℕ) → s ≡ t → p + q ≡ k → pick (eqb s 1) (2 - k) k ≡ o → r ≡ o
+      ranked : (k o : Ordering) → s ≡ t → nat_cmp x y ≡ k → pick (eqb s 1) (ordering_reverse k) k ≡ o → r ≡ o
       ranked k o e w h =
-          by-ranks x y p q hp hq (magnitudes f) r hr s t (rank f a) (rank f b) ex ey (sign-lt f a) (sign-lt f b) (rank_lt f S a) (rank_lt f S b) k e w ∙ h
+          by-ranks x y (magnitudes f) r hr s t (rank f a) (rank f b) ex ey (sign-lt f a) (sign-lt f b) (rank_lt f S a) (rank_lt f S b) k e w ∙ h
 
-      twice : (s : ℕ) → s < 2 → pick (eqb s 1) 2 0 ≡ s * 2
-      twice zero l = refl
-      twice (suc zero) l = refl
-      twice (suc (suc k)) l = absurd (omega arith)
+      turned : (s : ℕ) → s < 2 → pick (eqb s 1) Greater Less ≡ signed (1 - s)
+      turned zero l = refl
+      turned (suc zero) l = refl
+      turned (suc (suc k)) l = absurd (omega arith)
 
-      less-twice : (s : ℕ) → s < 2 → pick (eqb s 1) 0 2 ≡ 2 - s * 2
-      less-twice zero l = refl
-      less-twice (suc zero) l = refl
-      less-twice (suc (suc k)) l = absurd (omega arith)
-
-      alike : (t : Bool) → ◌≡◌ {A = ℕ} (pick t 1 1) 1
+      alike : (t : Bool) → pick t Equal Equal ≡ Equal
       alike true = refl
       alike false = refl
 
-      go : (s ≡ t) ⊎ (s ≡ t → ⊥) → Test (rank f a) (rank f b) → r ≡ side (minus (value_of f a) (value_of f b))
+      go : (s ≡ t) ⊎ (s ≡ t → ⊥) → Test (rank f a) (rank f b) → r ≡ lies (minus (value_of f a) (value_of f b))
       go (inr n) o =
-          by-signs x y p q hp hq (magnitudes f) r hr s t (rank f a) (rank f b) ex ey (sign-lt f a) (sign-lt f b) (rank_lt f S a) (rank_lt f S b) n
-          ∙ sides_apart f S a b na nb n
+          by-signs x y (magnitudes f) r hr s t (rank f a) (rank f b) ex ey (sign-lt f a) (sign-lt f b) (rank_lt f S a) (rank_lt f S b) n
+          ∙ signs_apart f S a b na nb n
       go (inl e) (same h) =
           let m = told e in
-          ranked 1 1 e (rising-same x y p q hp hq (omega (arith, ex, ey))) (alike (eqb s 1)) ∙ sides-equal f S a b na nb e h
+          ranked Equal Equal e (rising-same x y (omega (arith, ex, ey))) (alike (eqb s 1)) ∙ ranks-equal f S a b na nb e h
       go (inl e) (more h) =
           let m = told e in
-          ranked 0 (s * 2) e (rising-more x y p q hp hq (omega (arith, ex, ey))) (twice s (sign-lt f a)) ∙ sides-more f S a b na nb e h
+          ranked Greater (signed s) e (rising-more x y (omega (arith, ex, ey))) refl ∙ ranks-more f S a b na nb e h
       go (inl e) (less h) =
           let m = told e in
-          ranked 2 (2 - s * 2) e (rising-less x y p q hp hq (omega (arith, ex, ey))) (less-twice s (sign-lt f a)) ∙ sides-less f S a b na nb e h
+          ranked Less (signed (1 - s)) e (rising-less x y (omega (arith, ex, ey))) (turned s (sign-lt f a)) ∙ ranks-less f S a b na nb e h
+
+  -- as the code has it: the two change sides
+  pub order-chosen : (p q : ℕ) (t : Bool) → t ≡ (leb (magnitudes f) x || leb (magnitudes f) y) → p ≡ pick t y x → q ≡ pick t x y → r ≡ nat_cmp p q
+      → r ≡ lies (minus (value_of f a) (value_of f b))
+  order-chosen p q t ht hp hq hr =
+      order-found (hr ∙ ap₂ nat_cmp hp hq ∙ go t ∙ ap (λ (z : Bool). pick z (ordering_reverse (nat_cmp x y)) (nat_cmp x y)) ht)
+    where
+      go : (t : Bool) → nat_cmp (pick t y x) (pick t x y) ≡ pick t (ordering_reverse (nat_cmp x y)) (nat_cmp x y)
+      go true = reversed x y
+      go false = refl
 
 -- ---- the relation, and the answer
--- by how the number lies to zero, and bits <1:0> and <2> of the relation
-side-related : (relation : ℕ) (x : Exact)
-    → not (beq (eqb (side x) (relation % 4)) (eqb (relation / 4 % 2) 1))
-    ≡ relation_holds relation (not (eqb x.num 0) && eqb x.sign 1) (eqb x.num 0)
-side-related relation x = at (eqb x.num 0) (eqb x.sign 1)
+-- how two numbers lie, by bits <1:0>, and bit <2> for the opposite
+abbrev pub by-order : ℕ → Ordering → Bool
+by-order k o = eqb k 0 && not (is_lt o || is_eq o) || eqb k 1 && is_eq o || eqb k 2 && is_lt o
+
+pub greater-named : (o : Ordering) → is_gt o ≡ by-order 0 o
+greater-named Less = refl
+greater-named Equal = refl
+greater-named Greater = refl
+
+pub equal-named : (o : Ordering) → is_eq o ≡ by-order 1 o
+equal-named Less = refl
+equal-named Equal = refl
+equal-named Greater = refl
+
+pub less-named : (o : Ordering) → is_lt o ≡ by-order 2 o
+less-named Less = refl
+less-named Equal = refl
+less-named Greater = refl
+
+pub none-named : (o : Ordering) → false ≡ by-order 3 o
+none-named o = refl
+
+pub named-holds : (relation k : ℕ) (o : Ordering) (t : Bool) → relation % 4 ≡ k → t ≡ by-order k o
+    → not (beq t (eqb (relation / 4 % 2) 1)) ≡ relation_holds relation (is_lt o) (is_eq o)
+named-holds relation k o t e h =
+    ap (λ (z : Bool). not (beq z (eqb (relation / 4 % 2) 1))) (h ∙ ap (λ (n : ℕ). by-order n o) (sym e)) ∙ by_parts_lem relation (is_lt o) (is_eq o)
+
+lies-less : (x : Exact) → is_lt (lies x) ≡ (not (eqb x.num 0) && eqb x.sign 1)
+lies-less x = go (eqb x.num 0) (eqb x.sign 1)
   where
-    found : (none negative : Bool) (kind : ℕ) → kind < 4
-        → eqb (pick none 1 (pick negative 2 0)) kind
-        ≡ (eqb kind 0 && not (not none && negative || none) || eqb kind 1 && none || eqb kind 2 && (not none && negative))
-    found true n zero l = refl
-    found true n (suc zero) l = refl
-    found true n (suc (suc zero)) l = refl
-    found true n (suc (suc (suc zero))) l = refl
-    found true n (suc (suc (suc (suc k)))) l = absurd (omega arith)
-    found false true zero l = refl
-    found false true (suc zero) l = refl
-    found false true (suc (suc zero)) l = refl
-    found false true (suc (suc (suc zero))) l = refl
-    found false true (suc (suc (suc (suc k)))) l = absurd (omega arith)
-    found false false zero l = refl
-    found false false (suc zero) l = refl
-    found false false (suc (suc zero)) l = refl
-    found false false (suc (suc (suc zero))) l = refl
-    found false false (suc (suc (suc (suc k)))) l = absurd (omega arith)
+    go : (none negative : Bool) → is_lt (pick none Equal (pick negative Less Greater)) ≡ (not none && negative)
+    go true n = refl
+    go false true = refl
+    go false false = refl
 
-    at : (none negative : Bool)
-        → not (beq (eqb (pick none 1 (pick negative 2 0)) (relation % 4)) (eqb (relation / 4 % 2) 1)) ≡ relation_holds relation (not none && negative) none
-    at none negative =
-        ap (λ (t : Bool). not (beq t (eqb (relation / 4 % 2) 1))) (found none negative (relation % 4) (omega arith))
-        ∙ by_parts_lem relation (not none && negative) none
+lies-equal : (x : Exact) → is_eq (lies x) ≡ eqb x.num 0
+lies-equal x = go (eqb x.num 0) (eqb x.sign 1)
+  where
+    go : (none negative : Bool) → is_eq (pick none Equal (pick negative Less Greater)) ≡ none
+    go true n = refl
+    go false true = refl
+    go false false = refl
 
-module _ (f : Format) (relation a b : ℕ) where
-  pub compare-left : (t : Bool) → t ≡ is_reserved f a → t ≡ true → record { bit = false; types = 4 } ≡ compared f relation a b
-  compare-left t h y = let e : is_reserved f a ≡ true = sym h ∙ y in sym (simp e)
+module _ (f : Format) (relation a b : ℕ) (t u : Bool) (ht : t ≡ is_reserved f a) (hu : u ≡ is_reserved f b) where
+  pub compare-reserved : (t || u) ≡ true → record { bit = false; types = 4 } ≡ compared f relation a b
+  compare-reserved h = go (is_reserved f a) (is_reserved f b) (record { bit = false; types = 4 }) _ (sym (ap₂ (λ (x y : Bool). x || y) ht hu) ∙ h)
+    where
+      go : (x y : Bool) (r n : Compared) → (x || y) ≡ true → r ≡ pick x r (pick y r n)
+      go true y r n e = refl
+      go false true r n e = refl
+      go false false r n e = let c : ◌≡◌ {A = ℕ} 0 1 = cc in absurd (omega arith)
 
-  pub compare-right : (t u : Bool) → t ≡ is_reserved f a → t ≡ false → u ≡ is_reserved f b → u ≡ true
-      → record { bit = false; types = 4 } ≡ compared f relation a b
-  compare-right t u h n g y = let e : is_reserved f a ≡ false = sym h ∙ n in let e' : is_reserved f b ≡ true = sym g ∙ y in sym (simp (e, e'))
+  pub neither-reserved : (t || u) ≡ false → (is_reserved f a ≡ false) × (is_reserved f b ≡ false)
+  neither-reserved h = go (is_reserved f a) (is_reserved f b) (sym (ap₂ (λ (x y : Bool). x || y) ht hu) ∙ h)
+    where
+      go : (x y : Bool) → (x || y) ≡ false → (x ≡ false) × (y ≡ false)
+      go true y e = let c : ◌≡◌ {A = ℕ} 0 1 = cc in absurd (omega arith)
+      go false true e = let c : ◌≡◌ {A = ℕ} 0 1 = cc in absurd (omega arith)
+      go false false e = (refl, refl)
 
-  pub compare-both : (t u v : Bool) (o : ℕ) → t ≡ is_reserved f a → t ≡ false → u ≡ is_reserved f b → u ≡ false
-      → o ≡ side (minus (value_of f a) (value_of f b))
-      → v ≡ not (beq (eqb o (relation % 4)) (eqb (relation / 4 % 2) 1)) → record { bit = v; types = 0 } ≡ compared f relation a b
-  compare-both t u v o h n g m ho hv =
-      let e1 : is_reserved f a ≡ false = sym h ∙ n in
-      let e2 : is_reserved f b ≡ false = sym g ∙ m in
+  pub compare-both : (v : Bool) (o : Ordering) → (t || u) ≡ false → o ≡ lies (minus (value_of f a) (value_of f b))
+      → v ≡ relation_holds relation (is_lt o) (is_eq o) → record { bit = v; types = 0 } ≡ compared f relation a b
+  compare-both v o n ho hv =
+      let r = neither-reserved n in
+      let d = minus (value_of f a) (value_of f b) in
       ap (λ (z : Bool). record { bit = z; types = 0 })
-      (hv ∙ ap (λ (z : ℕ). not (beq (eqb z (relation % 4)) (eqb (relation / 4 % 2) 1))) ho ∙ side-related relation (minus (value_of f a) (value_of f b)))
-      ∙ sym (simp (e1, e2))
+      (hv ∙ ap₂ (relation_holds relation) (ap is_lt ho ∙ lies-less d) (ap is_eq ho ∙ lies-equal d))
+      ∙ sym (simp (r.0, r.1))

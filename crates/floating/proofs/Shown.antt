@@ -1,8 +1,8 @@
 -- What a reading shows of a word. Assumes nothing.
-use Rattle.std.proofs.Common.{◌≡◌, ℕ, zero, suc, ◌+◌, ◌-◌, ◌%◌, ◌^◌, ◌<◌, ◌≤◌, Bool, true, false, eqb, ℤ, pos, negsuc, ◌-ℤ◌, sym, refl, ap, ◌∙◌, subst, arith, w32, Fits, SFits, to_z, of_z, eq-eqb, ne_eqb}
+use Rattle.std.proofs.Common.{◌≡◌, ℕ, ◌+◌, ◌%◌, ◌^◌, ◌<◌, Bool, true, false, eqb, ℤ, sym, refl, ap, ◌∙◌, subst, arith, w32, Fits, to_z, of_z, eq-eqb, ne_eqb}
 use lib.Ieee.{Float, binary64, of_bits, to_bits, size}
 use lib.Ieee.Exact.{HasValue}
-use mir.ValLaws.{to_z_pos, of_z-to_z}
+use mir.ValLaws.{of_z-to_z}
 use Rattle.numbers.specs.Choice.{pick}
 use Rattle.numbers.specs.Signed.{signed, low32}
 use Rattle.numbers.proofs.Longwords.{low32-signed}
@@ -61,22 +61,6 @@ module _ (f : Format) (w : ℕ) where
       }
 
 -- ---- a longword
-minus_one : (x : ℕ) → negsuc 0 -ℤ pos x ≡ negsuc x
-minus_one zero = refl
-minus_one (suc n) = let e : suc (0 + n) ≡ suc n = omega arith in ap negsuc e
-
-module _ (l : ℕ) (lo : 2147483648 ≤ l) (hi : l < 4294967296) where
-  below-zero : negsuc 0 -ℤ to_z w32 (4294967295 - l) ≡ negsuc (4294967295 - l)
-  below-zero = ap (λ (z : ℤ). negsuc 0 -ℤ z) (to_z_pos w32 (4294967295 - l) (omega arith)) ∙ minus_one (4294967295 - l)
-
-  pub below-fits : SFits w32 (negsuc 0 -ℤ to_z w32 (4294967295 - l))
-  below-fits = subst (SFits w32) (sym below-zero) (record { sfits = omega arith })
-
-  pub below-is : to_z w32 (of_z w32 (negsuc 0 -ℤ to_z w32 (4294967295 - l))) ≡ to_z w32 l
-  below-is =
-      let e : 4294967296 - suc (4294967295 - l) ≡ l = omega arith in
-      ap (λ (z : ℤ). to_z w32 (of_z w32 z)) below-zero ∙ ap (to_z w32) e
-
 pub shows-longword : (w : ℕ) (r : ℤ) → Fits w32 w → r ≡ to_z w32 w
     → (Longword (to_z w32 (of_z w32 r)) ≡ longword_reading w) × (low32 (to_z w32 (of_z w32 r)) ≡ w)
 shows-longword w r f h =

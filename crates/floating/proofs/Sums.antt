@@ -141,47 +141,52 @@ module _ (f : Format) where
   none-delivered s w e he z = sym (delivered-zero f (units f s (size_of f w)) (size_none f w (sym he ∙ z)))
 
   -- ---- the smaller taken from the larger, or added to it
-  joint-delivered : (s x t y D : ℕ) → s < 2 → t < 2 → y ≤ x
-      → delivered f (record { sign = s; num = joint ((s + t) % 2) x y; den = D }) ≡ delivered f (together s x t y D)
-  joint-delivered s x t y D hs ht le = go (signs s t) (order x y)
+  joint-delivered : (s x t y D : ℕ) → y ≤ x
+      → delivered f (record { sign = s; num = joint (not (eqb s t)) x y; den = D }) ≡ delivered f (together s x t y D)
+  joint-delivered s x t y D le = go (signs s t) (order x y)
     where
-      is : (o : ℕ) → (s + t) % 2 ≡ o
-          → delivered f (record { sign = s; num = joint ((s + t) % 2) x y; den = D }) ≡ delivered f (record { sign = s; num = joint o x y; den = D })
-      is o e = ap (λ (z : ℕ). delivered f (record { sign = s; num = joint z x y; den = D })) e
+      is : (minus : Bool) → eqb s t ≡ not minus
+          → delivered f (record { sign = s; num = joint (not (eqb s t)) x y; den = D }) ≡ delivered f (record { sign = s; num = joint minus x y; den = D })
+      is true e = ap (λ (z : Bool). delivered f (record { sign = s; num = joint (not z) x y; den = D })) e
+      is false e = ap (λ (z : Bool). delivered f (record { sign = s; num = joint (not z) x y; den = D })) e
 
-      go : (s ≡ t) ⊎ (s ≡ t → ⊥) → Test x y → delivered f (record { sign = s; num = joint ((s + t) % 2) x y; den = D }) ≡ delivered f (together s x t y D)
-      go (inl e) o = is 0 (omega arith) ∙ ap (delivered f) (sym (together-same s x t y D e))
-      go (inr n) (more h) = is 1 (omega (arith, n)) ∙ ap (delivered f) (sym (together-more s x t y D n h))
+      go : (s ≡ t) ⊎ (s ≡ t → ⊥) → Test x y → delivered f (record { sign = s; num = joint (not (eqb s t)) x y; den = D }) ≡ delivered f (together s x t y D)
+      go (inl e) o = is false (eq-eqb s t e) ∙ ap (delivered f) (sym (together-same s x t y D e))
+      go (inr n) (more h) = is true (ne_eqb s t n) ∙ ap (delivered f) (sym (together-more s x t y D n h))
       go (inr n) (less h) = absurd (omega arith)
       go (inr n) (same e) =
           let p : x - y ≡ 0 = omega arith in
           let q : y - x ≡ 0 = omega arith in
-          is 1 (omega (arith, n))
+          is true (ne_eqb s t n)
           ∙ delivered-zero f (record { sign = s; num = x - y; den = D }) p
           ∙ sym (delivered-zero f (record { sign = t; num = y - x; den = D }) q)
           ∙ ap (delivered f) (sym (together-less s x t y D n (le_of_eq e)))
 
   -- the code's choice of the larger
-  pub chosen-delivered : (s a t b u k l : ℕ) → s < 2 → t < 2 → u ≡ pick (ltb a b) t s → k ≡ pick (ltb a b) b a → l ≡ pick (ltb a b) a b
-      → delivered f (units f u (joint ((s + t) % 2) (size_at f k) (size_at f l)))
+  pub chosen-delivered : (s a t b u k l : ℕ) → u ≡ pick (ltb a b) t s → k ≡ pick (ltb a b) b a → l ≡ pick (ltb a b) a b
+      → delivered f (units f u (joint (not (eqb s t)) (size_at f k) (size_at f l)))
       ≡ delivered f (together s (size_at f a) t (size_at f b) (2 ^ (f.bits + f.excess)))
-  chosen-delivered s a t b u k l hs ht hu hk hl =
-      ap (λ (z : ℕ). delivered f (units f z (joint ((s + t) % 2) (size_at f k) (size_at f l)))) hu
-      ∙ ap (λ (z : ℕ). delivered f (units f (pick (ltb a b) t s) (joint ((s + t) % 2) (size_at f z) (size_at f l)))) hk
-      ∙ ap (λ (z : ℕ). delivered f (units f (pick (ltb a b) t s) (joint ((s + t) % 2) (size_at f (pick (ltb a b) b a)) (size_at f z)))) hl
+  chosen-delivered s a t b u k l hu hk hl =
+      ap (λ (z : ℕ). delivered f (units f z (joint (not (eqb s t)) (size_at f k) (size_at f l)))) hu
+      ∙ ap (λ (z : ℕ). delivered f (units f (pick (ltb a b) t s) (joint (not (eqb s t)) (size_at f z) (size_at f l)))) hk
+      ∙ ap (λ (z : ℕ). delivered f (units f (pick (ltb a b) t s) (joint (not (eqb s t)) (size_at f (pick (ltb a b) b a)) (size_at f z)))) hl
       ∙ go (ltb a b) (ltb→lt a b) (nltb→le a b)
     where
       D : ℕ
       D = 2 ^ (f.bits + f.excess)
 
+      turned : (s ≡ t) ⊎ (s ≡ t → ⊥) → eqb s t ≡ eqb t s
+      turned (inl e) = eq-eqb s t e ∙ sym (eq-eqb t s (sym e))
+      turned (inr n) = ne_eqb s t n ∙ sym (ne_eqb t s (λ e. n (sym e)))
+
       go : (p : Bool) → (T p → a < b) → (T (not p) → b ≤ a)
-          → delivered f (record { sign = pick p t s; num = joint ((s + t) % 2) (size_at f (pick p b a)) (size_at f (pick p a b)); den = D })
+          → delivered f (record { sign = pick p t s; num = joint (not (eqb s t)) (size_at f (pick p b a)) (size_at f (pick p a b)); den = D })
           ≡ delivered f (together s (size_at f a) t (size_at f b) D)
       go true h g =
-          ap (λ (z : ℕ). delivered f (record { sign = t; num = joint (z % 2) (size_at f b) (size_at f a); den = D })) (add_comm s t)
-          ∙ joint-delivered t (size_at f b) s (size_at f a) D ht hs (at_most f b a (le_of_lt (h tt))).0
+          ap (λ (z : Bool). delivered f (record { sign = t; num = joint (not z) (size_at f b) (size_at f a); den = D })) (turned (signs s t))
+          ∙ joint-delivered t (size_at f b) s (size_at f a) D (at_most f b a (le_of_lt (h tt))).0
           ∙ either_order t (size_at f b) s (size_at f a) D
-      go false h g = joint-delivered s (size_at f a) t (size_at f b) D hs ht (at_most f a b (g tt)).0
+      go false h g = joint-delivered s (size_at f a) t (size_at f b) D (at_most f a b (g tt)).0
 
 -- the larger of two numbers, as the code chooses it
 pub in_order : (a b k l : ℕ) → k ≡ pick (ltb a b) b a → l ≡ pick (ltb a b) a b → l ≤ k
@@ -207,27 +212,24 @@ module _ (p : Bool) (a b k n : ℕ) (h : k ≡ pick p a b) where
       go false = y
 
 -- ---- the aligned sum or difference of two significands
-joint-factor : (o a b c : ℕ) → joint o (a * c) (b * c) ≡ joint o a b * c
-joint-factor o a b c = go (eqb o 1)
-  where
-    go : (t : Bool) → pick t (a * c - b * c) (a * c + b * c) ≡ pick t (a - b) (a + b) * c
-    go true = sym (sub-mul a b c)
-    go false = sym (add-mul a b c)
+joint-factor : (minus : Bool) (a b c : ℕ) → joint minus (a * c) (b * c) ≡ joint minus a b * c
+joint-factor true a b c = sym (sub-mul a b c)
+joint-factor false a b c = sym (add-mul a b c)
 
-module _ (f : Format) (o ea a eb b : ℕ) (le : eb ≤ ea) where
-  apart-joint : joint o (a * 2 ^ ea) (b * 2 ^ eb) ≡ joint o (a * 2 ^ (ea - eb)) b * 2 ^ eb
+module _ (f : Format) (minus : Bool) (ea a eb b : ℕ) (le : eb ≤ ea) where
+  apart-joint : joint minus (a * 2 ^ ea) (b * 2 ^ eb) ≡ joint minus (a * 2 ^ (ea - eb)) b * 2 ^ eb
   apart-joint =
       let ee : eb + (ea - eb) ≡ ea = omega arith in
-      ap (λ (z : ℕ). joint o z (b * 2 ^ eb)) (apart a ea eb (ea - eb) ee) ∙ joint-factor o (a * 2 ^ (ea - eb)) b (2 ^ eb)
+      ap (λ (z : ℕ). joint minus z (b * 2 ^ eb)) (apart a ea eb (ea - eb) ee) ∙ joint-factor minus (a * 2 ^ (ea - eb)) b (2 ^ eb)
 
   -- x, as n digits, is the whole part in units of 2 ^ -g of a's last digit
-  joint-placed : (n g s x : ℕ) → 0 < f.bits → g ≤ n - f.bits → x ≡ joint o (a * 2 ^ (ea - eb)) b * 2 ^ g / 2 ^ (ea - eb) → 2 ^ f.bits ≤ x
-      → delivered f (placed f n s x (ea + (n - f.bits - g)) 0) ≡ delivered f (units f s (joint o (a * 2 ^ ea) (b * 2 ^ eb)))
+  joint-placed : (n g s x : ℕ) → 0 < f.bits → g ≤ n - f.bits → x ≡ joint minus (a * 2 ^ (ea - eb)) b * 2 ^ g / 2 ^ (ea - eb) → 2 ^ f.bits ≤ x
+      → delivered f (placed f n s x (ea + (n - f.bits - g)) 0) ≡ delivered f (units f s (joint minus (a * 2 ^ ea) (b * 2 ^ eb)))
   joint-placed n g s x P room hx long =
       let w = f.bits + f.excess in
       let k = n - f.bits in
       let d = ea - eb in
-      let m = joint o (a * 2 ^ d) b in
+      let m = joint minus (a * 2 ^ d) b in
       let ee : eb + d ≡ ea = omega arith in
       let kk : k - g + g ≡ 0 + k = omega arith in
       let here : x * 2 ^ (ea + (k - g)) * 2 ^ (g + w) ≡ x * 2 ^ ea * (2 ^ (0 + k) * 2 ^ w) =
@@ -245,8 +247,8 @@ module _ (f : Format) (o ea a eb b : ℕ) (le : eb ≤ ea) where
       shuffled : (m i w d g : ℕ) → m * 2 ^ g * 2 ^ (i + d) * 2 ^ w ≡ m * 2 ^ i * (2 ^ d * 2 ^ (g + w))
       shuffled m i w d g = simp (pow-add, mul_assoc, mul_comm, mul_left_comm)
 
-  joint-none : (s : ℕ) → joint o (a * 2 ^ (ea - eb)) b ≡ 0 → Word 0 ≡ delivered f (units f s (joint o (a * 2 ^ ea) (b * 2 ^ eb)))
-  joint-none s z = sym (delivered-zero f (units f s (joint o (a * 2 ^ ea) (b * 2 ^ eb))) (apart-joint ∙ ap (λ (y : ℕ). y * 2 ^ eb) z ∙ zero-mul (2 ^ eb)))
+  joint-none : (s : ℕ) → joint minus (a * 2 ^ (ea - eb)) b ≡ 0 → Word 0 ≡ delivered f (units f s (joint minus (a * 2 ^ ea) (b * 2 ^ eb)))
+  joint-none s z = sym (delivered-zero f (units f s (joint minus (a * 2 ^ ea) (b * 2 ^ eb))) (apart-joint ∙ ap (λ (y : ℕ). y * 2 ^ eb) z ∙ zero-mul (2 ^ eb)))
 
 -- ---- what the functions of a sum were told, of magnitudes
 module _ (f : Format) (k l a b : ℕ) (hl : l ≤ k) (ha : a ≡ 2 ^ (f.bits - 1) + k % 2 ^ (f.bits - 1))
@@ -261,15 +263,14 @@ module _ (f : Format) (k l a b : ℕ) (hl : l ≤ k) (ha : a ≡ 2 ^ (f.bits - 1
   pub ordered-asked : b ≤ a * 2 ^ d
   ordered-asked = subst (λ (z : ℕ). z ≤ a * 2 ^ d) (sym hb) (subst (λ (z : ℕ). q + l % q ≤ z * 2 ^ d) (sym ha) (at_most f k l hl).1)
 
-  module _ (o w x : ℕ) (P : 0 < f.bits) (hw : w ≡ o) (hx : x ≡ joint w (a * 2 ^ d) b * 2 ^ (f.bits + 2) / 2 ^ d) where
+  module _ (minus : Bool) (x : ℕ) (P : 0 < f.bits) (hx : x ≡ joint minus (a * 2 ^ d) b * 2 ^ (f.bits + 2) / 2 ^ d) where
     no-higher : l / q ≤ k / q
     no-higher = div_mono l q k q (pow_pos (f.bits - 1)) (pow_pos (f.bits - 1)) (mul-le-mul_right q hl)
 
-    here : joint w (a * 2 ^ (k / q)) (b * 2 ^ (l / q)) ≡ joint o (size_at f k) (size_at f l)
+    here : joint minus (a * 2 ^ (k / q)) (b * 2 ^ (l / q)) ≡ joint minus (size_at f k) (size_at f l)
     here =
-        ap (λ (z : ℕ). joint z (a * 2 ^ (k / q)) (b * 2 ^ (l / q))) hw
-        ∙ ap (λ (z : ℕ). joint o (z * 2 ^ (k / q)) (b * 2 ^ (l / q))) ha
-        ∙ ap (λ (z : ℕ). joint o (size_at f k) (z * 2 ^ (l / q))) hb
+        ap (λ (z : ℕ). joint minus (z * 2 ^ (k / q)) (b * 2 ^ (l / q))) ha
+        ∙ ap (λ (z : ℕ). joint minus (size_at f k) (z * 2 ^ (l / q))) hb
 
     a-low : q ≤ a
     a-low = omega arith
@@ -277,14 +278,15 @@ module _ (f : Format) (k l a b : ℕ) (hl : l ≤ k) (ha : a ≡ 2 ^ (f.bits - 1
     b-high : b < 2 ^ f.bits
     b-high = let m = mod-lt l (pow_pos (f.bits - 1)) in let t = double-power f.bits P in omega arith
 
-    pub ordered-none : (s : ℕ) → x ≡ 0 → Word 0 ≡ delivered f (units f s (joint o (size_at f k) (size_at f l)))
+    pub ordered-none : (s : ℕ) → x ≡ 0 → Word 0 ≡ delivered f (units f s (joint minus (size_at f k) (size_at f l)))
     ordered-none s z =
-        joint-none f w (k / q) a (l / q) b no-higher s (none-joint f.bits a b d P a-low b-high w x hx z) ∙ ap (λ (y : ℕ). delivered f (units f s y)) here
+        joint-none f minus (k / q) a (l / q) b no-higher s (none-joint f.bits a b d P a-low b-high minus x hx z) ∙ ap
+        (λ (y : ℕ). delivered f (units f s y)) here
 
     pub ordered-placed : (n s : ℕ) → f.bits + 2 ≤ n - f.bits → (x ≡ 0 → ⊥)
-        → delivered f (placed f n s x (k / q + (n - f.bits - (f.bits + 2))) 0) ≡ delivered f (units f s (joint o (size_at f k) (size_at f l)))
+        → delivered f (placed f n s x (k / q + (n - f.bits - (f.bits + 2))) 0) ≡ delivered f (units f s (joint minus (size_at f k) (size_at f l)))
     ordered-placed n s room some =
-        joint-placed f w (k / q) a (l / q) b no-higher n (f.bits + 2) s x P room hx (some-long f.bits a b d P a-low b-high w x hx some)
+        joint-placed f minus (k / q) a (l / q) b no-higher n (f.bits + 2) s x P room hx (some-long f.bits a b d P a-low b-high minus x hx some)
         ∙ ap (λ (y : ℕ). delivered f (units f s y)) here
 
 -- ---- and of words

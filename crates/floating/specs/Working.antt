@@ -1,5 +1,7 @@
 -- What the functions inside the crate hand each other; no public promise, and no definition that one cites, uses it. Definitions only.
 use Rattle.std.specs.Prelude.{◌≡◌, ℕ, ◌+◌, ◌-◌, ◌*◌, ◌/◌, ◌%◌, ◌^◌, ◌<◌, ◌≤◌, Bool, ◌||◌, ltb, ◌==◌, nat_lt, to_bits, Float}
+use Rattle.std.specs.declared.cmp.Ordering.{Ordering}
+use Rattle.std.specs.declared.cmp.Ordering.TheVariants.{Less, Equal, Greater}
 use Rattle.std.specs.Float.{binary64}
 use Rattle.std.specs.Float.Ieee.Exact.{HasValue}
 use Rattle.numbers.specs.Choice.{pick}
@@ -39,9 +41,9 @@ placed f n s x e down = record { sign = s; num = x * 2 ^ e; den = 2 ^ (down + (n
 abbrev pub settled : Format → ℕ → ℕ → ℕ → ℕ → Delivery
 settled f s e down m = judged f s (carried f.bits m e).sig ((carried f.bits m e).exp - down)
 
--- a + b, or with o 1 a - b
-abbrev pub joint : ℕ → ℕ → ℕ → ℕ
-joint o a b = pick (o == 1) (a - b) (a + b)
+-- a + b, or with minus a - b
+abbrev pub joint : Bool → ℕ → ℕ → ℕ
+joint minus a b = pick minus (a - b) (a + b)
 
 -- what a, and b with the sign t, give together
 abbrev pub combined : Format → ℕ → ℕ → ℕ → Delivery
@@ -90,9 +92,9 @@ pub record Reads (f : Format) (w : ℕ) (r : Float) : Type 0 where
   pub value : HasValue r (sign_of f w == 1) (significand_of f w * 2 ^ exponent_of f w) (2 ^ (f.bits + f.excess))
   pub bits : to_bits binary64 r ≡ double_bits f (sign_of f w) (exponent_of f w) (fraction_of f w)
 
--- how a number lies to zero: 0 above, 1 equal, 2 below, which are the numbers of the relations greater, equal and less
-abbrev pub side : Exact → ℕ
-side x = pick (x.num == 0) 1 (pick (x.sign == 1) 2 0)
+-- how a number lies to zero
+abbrev pub lies : Exact → Ordering
+lies x = pick (x.num == 0) Equal (pick (x.sign == 1) Less Greater)
 
 -- one of two words is zero or reserved: its exponent is 0
 abbrev pub is_special : Format → ℕ → ℕ → Bool

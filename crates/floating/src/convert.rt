@@ -1,5 +1,6 @@
 // Words to longwords, and longwords to words.
 ghost use Rattle.std.specs.Prelude.{◌≡◌, ◌+◌, ◌-◌, ◌*◌, ◌^◌, ◌<◌, ◌≤◌, ◌==◌};
+ghost use Rattle.std.specs.Int.{from_bool};
 ghost use Rattle.numbers.specs.Choice.{pick};
 ghost use Rattle.numbers.specs.Signed.{low32, overflows};
 ghost use Rattle.floating.specs.Format.{F};
@@ -9,13 +10,14 @@ ghost use Rattle.floating.specs.Operations.{to_longword, from_longword};
 ghost use Rattle.floating.specs.Working.{whole_by, StandsFor};
 
 use crate::{Delivery, Flagged, deliver, format, round, word};
+use numbers::halves;
 
 // m * 2 ^ e units, made whole, where the places of the fraction are cut off: a longword holds it.
-fn whole_below(e: u32, m: u64, halves: u64) -> u64
-    requires { (e ≤ F.bits + F.excess) × (m < 2 ^ F.bits) × (halves < 2) }
-    ensures { (result ≡ whole_by halves (m * 2 ^ e) (2 ^ (F.bits + F.excess))) × (result ≤ 2 ^ F.bits) }
+fn whole_below(e: u32, m: u64, rounded: bool) -> u64
+    requires { (e ≤ F.bits + F.excess) × (m < 2 ^ F.bits) }
+    ensures { (result ≡ whole_by (from_bool rounded) (m * 2 ^ e) (2 ^ (F.bits + F.excess))) × (result ≤ 2 ^ F.bits) }
 {
-    (round::cut_down(m * 2, format::F_UNIT - e) + halves) / 2
+    (round::cut_down(m * 2, format::F_UNIT - e) + u64::from(rounded)) / 2
 }
 
 // The same where there is no fraction. Moved up by 32 places or more it has zeros for its low 32 bits, and 2 ^ 32 stands for it.
@@ -24,7 +26,7 @@ fn whole_above(e: u32, m: u64) -> u64
     ensures { StandsFor result (m * 2 ^ (e - (F.bits + F.excess))) }
 {
     if e < format::F_LOW_ZERO {
-        m * round::power(e - format::F_UNIT)
+        round::raised(m, e - format::F_UNIT)
     } else {
         4294967296
     }
@@ -34,9 +36,8 @@ fn whole_above(e: u32, m: u64) -> u64
 fn longword_of(s: u32, n: u64) -> u32
     ensures { result ≡ low32 (integer s n) }
 {
-    let low = n % 4294967296;
-    let minus = (4294967296 - low) % 4294967296;
-    word::chosen(s == 1, round::narrow(minus), round::narrow(low))
+    let low = halves::longword(n);
+    word::chosen(s == 1, low.wrapping_neg(), low)
 }
 
 // n, or minus n, is no longword.
@@ -44,12 +45,12 @@ fn is_wide(s: u32, n: u64) -> bool
     requires { s < 2 }
     ensures { result ≡ overflows (integer s n) }
 {
-    2147483647 + word::wide(s) < n
+    2147483647 + u64::from(s) < n
 }
 
-pub fn to_longword(word: u32, halves: u64, exc: bool) -> Flagged
-    requires { halves < 2 }
-    ensures { result ≡ to_longword F (whole_by halves) exc word }
+// Made whole: to the nearest number, or without its fraction.
+pub fn to_longword(word: u32, rounded: bool, exc: bool) -> Flagged
+    ensures { result ≡ to_longword F (whole_by (from_bool rounded)) exc word }
 {
     let e = word::exponent_of(word);
     let s = word::sign_of(word);
@@ -62,7 +63,7 @@ pub fn to_longword(word: u32, halves: u64, exc: bool) -> Flagged
     let m = word::significand_of(word);
     if e <= format::F_UNIT {
         return Flagged {
-            value: longword_of(s, whole_below(e, m, halves)),
+            value: longword_of(s, whole_below(e, m, rounded)),
             types: 0,
         };
     }
@@ -98,5 +99,5 @@ pub fn from_longword(l: u32) -> u32
         return 0;
     }
     let s = l / 2147483648;
-    word_of_size(s, size_of(s, word::wide(l)))
+    word_of_size(s, size_of(s, u64::from(l)))
 }

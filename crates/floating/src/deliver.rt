@@ -12,7 +12,7 @@ pub fn packed_of(e: u32, m: u32) -> u32
     requires { (e < 2 * (F.largest + 1)) × (2 ^ (F.bits - 1) ≤ m) × (m ≤ 2 ^ F.bits) }
     ensures { result ≡ packed F e m % 4294967296 }
 {
-    std::num::wrapping_add_u32(e * format::F_FIRST, m - format::F_FIRST)
+    (e * format::F_FIRST).wrapping_add(m - format::F_FIRST)
 }
 
 pub fn word_of(s: u32, magnitude: u32) -> u32
@@ -33,7 +33,7 @@ fn judged(exc: bool, s: u32, e: u32, down: u32, m: u32) -> Flagged
         m,
     );
     // Counted from the smallest number, what is below it lies above too: one test finds both ends, and e and down tell which it is.
-    let past = std::num::wrapping_sub_u32(magnitude, format::F_FIRST);
+    let past = magnitude.wrapping_sub(format::F_FIRST);
     if format::F_NUMBERS <= past {
         if e <= down {
             return Flagged {
@@ -58,40 +58,28 @@ pub fn of_digits(exc: bool, s: u32, e: u32, down: u32, x: u64) -> Flagged
     ensures { result ≡ answered exc (delivered F (placed F 64 s x e down)) }
 {
     let z = round::zeros_of(x);
-    let r = judged(exc, s, e, down + z, round::near_of(round::raised(x, z)));
-    Flagged {
-        value: r.value,
-        types: r.types,
-    }
+    judged(exc, s, e, down + z, round::near_of(round::raised(x, z)))
 }
 
 // The same of digits that are one more than are kept.
-pub fn of_one_more(exc: bool, s: u32, e: u32, down: u32, x: u64) -> Flagged
+pub fn of_one_more(exc: bool, s: u32, e: u32, down: u32, x: u32) -> Flagged
     requires { (s < 2) × (down ≤ e + F.largest) × (e < down + 2 * F.largest) × (down < 1000) × (2 ^ F.bits ≤ x) × (x < 2 ^ (F.bits + 1)) }
     ensures { result ≡ answered exc (delivered F (placed F (F.bits + 1) s x e down)) }
 {
-    let r = judged(exc, s, e, down, round::nearest(x));
-    Flagged {
-        value: r.value,
-        types: r.types,
-    }
+    judged(exc, s, e, down, round::nearest(x))
 }
 
-// The same of digits that are one or two more than are kept, in 32 bits.
+// The same of digits that are one or two more than are kept.
 pub fn of_two_more(exc: bool, s: u32, e: u32, down: u32, x: u32) -> Flagged
     requires { (s < 2) × (down + 1 ≤ e + F.largest) × (e < down + 2 * F.largest) × (down < 900) × (2 ^ F.bits ≤ x) × (x < 2 ^ (F.bits + 2)) }
     ensures { result ≡ answered exc (delivered F (placed F (F.bits + 2) s x e down)) }
 {
     let z = round::places_short(x);
-    let r = judged(
+    judged(
         exc,
         s,
         e,
         down + z,
         round::nearest_of_two(round::doubled_once(x, z)),
-    );
-    Flagged {
-        value: r.value,
-        types: r.types,
-    }
+    )
 }

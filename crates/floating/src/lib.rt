@@ -100,61 +100,39 @@ pub fn subtract(a: u32, b: u32, exc: bool) -> Flagged
     sum_or_difference(true, a, b, exc)
 }
 
-// From here on an answer is handed on by its parts, which the compiler then keeps apart.
-
 // a times b
 pub fn multiply(a: u32, b: u32, exc: bool) -> Flagged
     ensures { result ≡ answered exc (product F a b) }
 {
-    let r = product::of_words(exc, a, b);
-    Flagged {
-        value: r.value,
-        types: r.types,
-    }
+    product::of_words(exc, a, b)
 }
 
 // a divided by b
 pub fn divide(a: u32, b: u32, exc: bool) -> Flagged
     ensures { result ≡ answered exc (quotient F a b) }
 {
-    let r = quotient::of_words(exc, a, b);
-    Flagged {
-        value: r.value,
-        types: r.types,
-    }
+    quotient::of_words(exc, a, b)
 }
 
 // Whether a stands in the relation <2:0> to b.
 pub fn compare(relation: u32, a: u32, b: u32) -> Compared
     ensures { result ≡ compared F relation a b }
 {
-    let r = order::compare_words(relation, a, b);
-    Compared {
-        bit: r.bit,
-        types: r.types,
-    }
+    order::compare_words(relation, a, b)
 }
 
 // Conversion 5, F to longword rounded.
 pub fn rounded_longword(word: u32, exc: bool) -> Flagged
     ensures { result ≡ rounded_longword F exc word }
 {
-    let r = convert::to_longword(word, 1, exc);
-    Flagged {
-        value: r.value,
-        types: r.types,
-    }
+    convert::to_longword(word, true, exc)
 }
 
 // Conversion 4, F to longword truncated.
 pub fn truncated_longword(word: u32, exc: bool) -> Flagged
     ensures { result ≡ truncated_longword F exc word }
 {
-    let r = convert::to_longword(word, 0, exc);
-    Flagged {
-        value: r.value,
-        types: r.types,
-    }
+    convert::to_longword(word, false, exc)
 }
 
 // Conversion 1, longword to F. There is always a word, and nothing is recorded.
@@ -178,7 +156,7 @@ pub fn read_floating(word: u32) -> Reading
 pub fn read_longword(word: u32) -> Reading
     ensures { (result ≡ longword_reading word) × (bits_of result ≡ word) }
 {
-    Reading::Longword(read::signed(word))
+    Reading::Longword(word.cast_signed())
 }
 
 // The number of a reading's case.

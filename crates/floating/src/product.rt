@@ -62,17 +62,9 @@ pub fn of_words(exc: bool, a: u32, b: u32) -> Flagged
     let ea = word::exponent_of(a);
     let eb = word::exponent_of(b);
     if (ea == 0) | (eb == 0) {
-        let r = multiply_special(a, b);
-        return Flagged {
-            value: r.value,
-            types: r.types,
-        };
+        return multiply_special(a, b);
     }
     let s = sign_of_product(a, b);
     let x = first_digits(word::short_significand_of(a), word::short_significand_of(b));
-    let r = deliver::of_two_more(exc, s, ea + eb, format::F_FIRST_DIGITS_DOWN, x);
-    Flagged {
-        value: r.value,
-        types: r.types,
-    }
+    deliver::of_two_more(exc, s, ea + eb, format::F_FIRST_DIGITS_DOWN, x)
 }

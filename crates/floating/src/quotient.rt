@@ -16,11 +16,11 @@ fn places_up(a: u64, b: u64) -> u32
 
 // The whole part of the quotient of two significands, the dividend moved up: one digit more than are kept. No digit past these makes or unmakes a half, so
 // the whole part decides the rounding.
-fn whole_quotient(a: u64, b: u64, up: u32) -> u64
+fn whole_quotient(a: u64, b: u64, up: u32) -> u32
     requires { (0 < b) × (b < 2 ^ F.bits) × (up ≤ F.bits + 1) × (b * 2 ^ F.bits ≤ a * 2 ^ up) × (a * 2 ^ up < b * 2 ^ (F.bits + 1)) }
     ensures { (result ≡ a * 2 ^ up / b) × (2 ^ F.bits ≤ result) × (result < 2 ^ (F.bits + 1)) }
 {
-    round::raised(a, up) / b
+    (round::raised(a, up) / b) as u32
 }
 
 // The type of the exception where one of the two is zero or reserved; 0 where zero is divided by a number, which makes none.
@@ -52,20 +52,12 @@ pub fn of_words(exc: bool, a: u32, b: u32) -> Flagged
     let ea = word::exponent_of(a);
     let eb = word::exponent_of(b);
     if (ea == 0) | (eb == 0) {
-        let r = divide_special(a, b);
-        return Flagged {
-            value: r.value,
-            types: r.types,
-        };
+        return divide_special(a, b);
     }
     let s = product::sign_of_product(a, b);
     let ma = word::significand_of(a);
     let mb = word::significand_of(b);
     let up = places_up(ma, mb);
     let x = whole_quotient(ma, mb, up);
-    let r = deliver::of_one_more(exc, s, ea + format::F_QUOTIENT_UP, eb + up, x);
-    Flagged {
-        value: r.value,
-        types: r.types,
-    }
+    deliver::of_one_more(exc, s, ea + format::F_QUOTIENT_UP, eb + up, x)
 }

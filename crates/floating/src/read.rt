@@ -2,8 +2,6 @@
 ghost use Rattle.std.specs.Prelude.{◌≡◌, ◌+◌, ◌%◌, ◌^◌, ◌<◌, ◌≤◌, ◌==◌, to_bits};
 ghost use Rattle.std.specs.Float.{binary64};
 ghost use Rattle.std.specs.Float.Ieee.Exact.{HasValue};
-ghost use Rattle.std.specs.Int.{w32};
-ghost use Rattle.std.proofs.Common.{to_z, of_z};
 ghost use Rattle.floating.specs.Format.{F, exponent_of};
 ghost use Rattle.floating.specs.Reading.{Shows, bits_of};
 ghost use Rattle.floating.specs.Working.{Reads};
@@ -15,7 +13,7 @@ fn scale_of(s: u32, e: u32) -> f64
     requires { (s < 2) × (e ≤ F.largest) }
     ensures { HasValue result (s == 1) (2 ^ e) (2 ^ (F.bits + F.excess)) }
 {
-    f64::from_bits(word::wide(s * 2048 + e + format::F_DOUBLE) * 4503599627370496)
+    f64::from_bits(u64::from(s * 2048 + e + format::F_DOUBLE) * 4503599627370496)
 }
 
 // The significand as a whole number, times a power of two with the sign: each operation is exact.
@@ -46,34 +44,15 @@ pub fn floating(word: u32) -> Reading
     Reading::Number(number_of(word))
 }
 
-// 32 bits as a number in two's complement.
-pub fn signed(l: u32) -> i32
-    ensures { result ≡ to_z w32 l }
-{
-    if l < 2147483648 {
-        return l as i32;
-    }
-    -1 - (4294967295 - l) as i32
-}
-
-// The 32 bits of a number, in two's complement.
-fn unsigned(i: i32) -> u32
-    ensures { result ≡ of_z w32 i }
-{
-    if 0 <= i {
-        return i as u32;
-    }
-    4294967295 - (-1 - i) as u32
-}
-
 // The bits of a binary64 number; a word has no NaN.
 fn number_bits(x: f64) -> u64
     ensures { result ≡ to_bits binary64 x }
 {
-    if x == x {
-        return f64::to_bits(x);
+    if x.is_nan() {
+        0x7ff8_0000_0000_0000
+    } else {
+        x.to_bits()
     }
-    9221120237041090560
 }
 
 pub fn bits_of(r: Reading) -> u64
@@ -81,7 +60,7 @@ pub fn bits_of(r: Reading) -> u64
 {
     match r {
         Reading::Number(x) => number_bits(x),
-        Reading::Longword(i) => word::wide(unsigned(i)),
-        Reading::Reserved(c) => c as u64,
+        Reading::Longword(i) => u64::from(i.cast_unsigned()),
+        Reading::Reserved(c) => u64::from(c),
     }
 }

@@ -5,36 +5,12 @@ ghost use Rattle.floating.specs.Round.{near};
 
 use crate::{format, word};
 
-pub fn narrow(x: u64) -> u32
-    requires { x < 4294967296 }
-    ensures { result ≡ x }
-{
-    x as u32
-}
-
-pub fn power(k: u32) -> u64
-    requires { k < 64 }
-    ensures { result ≡ 2 ^ k }
-{
-    1u64 << k
-}
-
-fn shifted(x: u64, k: u32) -> u64
-    requires { k < 64 }
-    ensures { result ≡ x / 2 ^ k }
-{
-    x >> k
-}
-
 // x / 2 ^ d, at any d
 pub fn cut_down(x: u64, d: u32) -> u64
     requires { x < 2 ^ (F.bits + F.bits + 2) }
     ensures { result ≡ x / 2 ^ d }
 {
-    shifted(
-        x,
-        word::chosen(d < format::F_SUM_DIGITS, d, format::F_SUM_DIGITS),
-    )
+    x >> d.min(format::F_SUM_DIGITS)
 }
 
 // How many places x must be moved up to have 64 digits.
@@ -42,7 +18,7 @@ pub fn zeros_of(x: u64) -> u32
     requires { 0 < x }
     ensures { (result < 64) × (2 ^ 63 ≤ x * 2 ^ result) × (x * 2 ^ result < 2 ^ 64) }
 {
-    u64::leading_zeros(x)
+    x.leading_zeros()
 }
 
 // x moved up.
@@ -53,20 +29,21 @@ pub fn raised(x: u64, z: u32) -> u64
     x << z
 }
 
-// The first digits of the 64 of y, to the nearest, halves up: a digit more may come of it.
+// One digit less, to the nearest, a half up: a digit more may come of it. The first digit that is left out decides, so of more digits those after it are cut
+// off before.
+pub fn nearest(x: u32) -> u32
+    requires { (2 ^ F.bits ≤ x) × (x < 2 ^ (F.bits + 1)) }
+    ensures { (result ≡ near x 2) × (2 ^ (F.bits - 1) ≤ result) × (result ≤ 2 ^ F.bits) }
+{
+    (x + 1) / 2
+}
+
+// The first digits of the 64 of y, to the nearest.
 pub fn near_of(y: u64) -> u32
     requires { 2 ^ 63 ≤ y }
     ensures { (result ≡ near y (2 ^ (64 - F.bits))) × (2 ^ (F.bits - 1) ≤ result) × (result ≤ 2 ^ F.bits) }
 {
-    ((y / format::F_FIRST_OUT + 1) / 2) as u32
-}
-
-// One digit less, a half up: a digit more may come of it.
-pub fn nearest(x: u64) -> u32
-    requires { (2 ^ F.bits ≤ x) × (x < 2 ^ (F.bits + 1)) }
-    ensures { (result ≡ near x 2) × (2 ^ (F.bits - 1) ≤ result) × (result ≤ 2 ^ F.bits) }
-{
-    ((x + 1) / 2) as u32
+    nearest((y / format::F_FIRST_OUT) as u32)
 }
 
 // How many places x, of one or two digits more than are kept, must be moved up to have two more.
@@ -85,7 +62,8 @@ pub fn doubled_once(x: u32, z: u32) -> u32
     x + word::chosen(z == 1, x, 0)
 }
 
-// Two digits less, to the nearest, a half up: a digit more may come of it.
+// Two digits less, to the nearest, a half up: a digit more may come of it. With the last digit cut off before, and `nearest` then, compilers shift by a number that
+// they do not know, and a product takes a sixth longer.
 pub fn nearest_of_two(x: u32) -> u32
     requires { (2 ^ (F.bits + 1) ≤ x) × (x < 2 ^ (F.bits + 2)) }
     ensures { (result ≡ near x 4) × (2 ^ (F.bits - 1) ≤ result) × (result ≤ 2 ^ F.bits) }

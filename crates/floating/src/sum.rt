@@ -10,29 +10,30 @@ ghost use Rattle.floating.specs.Working.{magnitudes, size_at, joint, combined, i
 
 use crate::{Flagged, deliver, format, round, word};
 
-// The whole part of a + b, or with o 1 of a - b, with two digits more than are kept below a's last: it has more digits than are kept or is 0, so that
+// The whole part of a + b, or with minus of a - b, with two digits more than are kept below a's last: it has more digits than are kept or is 0, so that
 // it alone decides the rounding. What is cut off of b leaves one unit less of a difference.
-fn aligned(o: u64, a: u64, b: u64, d: u32) -> u64
-    requires { (o < 2) × (2 ^ (F.bits - 1) ≤ a) × (a < 2 ^ F.bits) × (2 ^ (F.bits - 1) ≤ b) × (b < 2 ^ F.bits) × (b ≤ a * 2 ^ d) }
-    ensures { result ≡ joint o (a * 2 ^ d) b * 2 ^ (F.bits + 2) / 2 ^ d }
+fn aligned(minus: bool, a: u64, b: u64, d: u32) -> u64
+    requires { (2 ^ (F.bits - 1) ≤ a) × (a < 2 ^ F.bits) × (2 ^ (F.bits - 1) ≤ b) × (b < 2 ^ F.bits) × (b ≤ a * 2 ^ d) }
+    ensures { result ≡ joint minus (a * 2 ^ d) b * 2 ^ (F.bits + 2) / 2 ^ d }
 {
+    let o = u64::from(minus);
     let c = o + round::cut_down(b * format::F_BELOW_UNIT - o, d);
-    if o == 1 {
+    if minus {
         a * format::F_BELOW_UNIT - c
     } else {
         a * format::F_BELOW_UNIT + c
     }
 }
 
-// Two numbers with the magnitudes k and l, k no smaller: the sum, or with o 1 the difference, with the sign s.
-fn add_ordered(exc: bool, s: u32, o: u32, k: u32, l: u32) -> Flagged
-    requires { (s < 2) × (o < 2) × (2 ^ (F.bits - 1) ≤ l) × (l ≤ k) × (k < magnitudes F) }
-    ensures { result ≡ answered exc (delivered F (units F s (joint o (size_at F k) (size_at F l)))) }
+// Two numbers with the magnitudes k and l, k no smaller: the sum, or with minus the difference, with the sign s.
+fn add_ordered(exc: bool, s: u32, minus: bool, k: u32, l: u32) -> Flagged
+    requires { (s < 2) × (2 ^ (F.bits - 1) ≤ l) × (l ≤ k) × (k < magnitudes F) }
+    ensures { result ≡ answered exc (delivered F (units F s (joint minus (size_at F k) (size_at F l)))) }
 {
     let e = k / format::F_FIRST;
-    let a = word::wide(format::F_FIRST + k % format::F_FIRST);
-    let b = word::wide(format::F_FIRST + l % format::F_FIRST);
-    let x = aligned(word::wide(o), a, b, e - l / format::F_FIRST);
+    let a = u64::from(format::F_FIRST + k % format::F_FIRST);
+    let b = u64::from(format::F_FIRST + l % format::F_FIRST);
+    let x = aligned(minus, a, b, e - l / format::F_FIRST);
     if x == 0 {
         return Flagged { value: 0, types: 0 }; // and no minus zero
     }
@@ -47,7 +48,7 @@ fn add_sizes(exc: bool, s: u32, a: u32, t: u32, b: u32) -> Flagged
     let less = a < b;
     let k = word::chosen(less, b, a);
     let l = word::chosen(less, a, b);
-    add_ordered(exc, word::chosen(less, t, s), (s + t) % 2, k, l)
+    add_ordered(exc, word::chosen(less, t, s), s != t, k, l)
 }
 
 // The word of a number, with the sign s.

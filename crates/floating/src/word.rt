@@ -6,12 +6,6 @@ ghost use Rattle.floating.specs.Working.{swapped as swapped_word, magnitude};
 
 use crate::format;
 
-pub fn wide(x: u32) -> u64
-    ensures { result ≡ x }
-{
-    x as u64
-}
-
 // Both are worked out before one is chosen, so that nothing has to be foretold.
 pub fn chosen(first: bool, x: u32, y: u32) -> u32
     ensures { result ≡ pick first x y }
@@ -47,7 +41,7 @@ pub fn fraction_of(word: u32) -> u32
 pub fn significand_of(word: u32) -> u64
     ensures { result ≡ significand_of F word }
 {
-    wide(format::F_FIRST + fraction_of(word))
+    u64::from(short_significand_of(word))
 }
 
 // The same in 32 bits.
@@ -60,13 +54,13 @@ pub fn short_significand_of(word: u32) -> u32
 pub fn is_zero(word: u32) -> bool
     ensures { result ≡ is_zero F word }
 {
-    (word / format::F_PLACE % format::F_FIELDS == 0) & (word / 32768 % 2 == 0)
+    (exponent_of(word) == 0) & (sign_of(word) == 0)
 }
 
 pub fn is_reserved(word: u32) -> bool
     ensures { result ≡ is_reserved F word }
 {
-    (word / format::F_PLACE % format::F_FIELDS == 0) & (word / 32768 % 2 == 1)
+    (exponent_of(word) == 0) & (sign_of(word) == 1)
 }
 
 pub fn magnitude_of(word: u32) -> u32

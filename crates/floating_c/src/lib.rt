@@ -1,36 +1,24 @@
 // The floating operations for C, on plain numbers. A result has the value in its low 32 bits and the type bits above. EXC is set where exc is not 0.
 #![tactic(auto)]
 
-ghost use Rattle.std.specs.Prelude.{◌≡◌, ◌≤◌};
+ghost use Rattle.std.specs.Prelude.{◌≡◌};
 ghost use Rattle.numbers.specs.Choice.{pick};
 ghost use Rattle.floating.specs.declared.Delivery.TheVariants.{Word};
 ghost use Rattle.floating.specs.Format.{F, is_reserved};
 ghost use Rattle.floating.specs.Reading.{shown_bits};
 ghost use Rattle.floating.specs.Operations.{answered, sum, difference, product, quotient, compared, rounded_longword, truncated_longword, from_longword};
-ghost use Rattle.floating_c.specs.Given.{is_set, joined, joined_bit, shorter, shortest, Multiplied};
-
-fn wide(x: u32) -> u64
-    ensures { result ≡ x }
-{
-    x as u64
-}
+ghost use Rattle.floating_c.specs.Given.{is_set, joined, joined_bit, shortest, Multiplied};
 
 fn join(r: floating::Flagged) -> u64
     ensures { result ≡ joined r }
 {
-    wide(r.value) + wide(r.types) * 4294967296
-}
-
-fn bit_number(bit: bool) -> u64
-    ensures { (result ≡ pick bit 1 0) × (result ≤ 1) }
-{
-    if bit { 1 } else { 0 }
+    u64::from(r.value) + u64::from(r.types) * 4294967296
 }
 
 fn join_bit(r: floating::Compared) -> u64
     ensures { result ≡ joined_bit r }
 {
-    bit_number(r.bit) + wide(r.types) * 4294967296
+    u64::from(r.bit) + u64::from(r.types) * 4294967296
 }
 
 #[unsafe(no_mangle)]
@@ -88,8 +76,7 @@ pub extern "C" fn kuj_f_cvt_truncated(word: u32, exc: u32) -> u64
 pub extern "C" fn kuj_f_from_longword(longword: u32) -> u64
     ensures { from_longword F longword ≡ Word result }
 {
-    let r = floating::from_longword(longword);
-    wide(r.value)
+    u64::from(floating::from_longword(longword).value)
 }
 
 // The kind of a word's F_floating reading.
@@ -108,22 +95,12 @@ pub extern "C" fn kuj_f_reading_bits(word: u32) -> u64
     floating::bits_of(floating::read_floating(word))
 }
 
-fn shorter_of(x: usize, y: usize) -> usize
-    ensures { (result ≡ shorter x y) × (result ≤ x) × (result ≤ y) }
-{
-    if x < y { x } else { y }
-}
-
 // The products of two runs of words, each into its place in out, as far as the shortest of the three goes; the rest of out is kept. EXC is clear.
 #[unsafe(no_mangle)]
 pub extern "C" fn kuj_f_multiply_all(a: &[u32], b: &[u32], out: &mut [u32])
     ensures { Multiplied a.now b.now out.old out.new (shortest a.now b.now out.old) }
 {
-    let n = shorter_of(shorter_of(a.len(), b.len()), out.len());
-    let mut i = 0;
-    while i < n {
-        let r = floating::multiply(a[i], b[i], false);
-        out[i] = r.value;
-        i += 1;
+    for i in 0..a.len().min(b.len()).min(out.len()) {
+        out[i] = floating::multiply(a[i], b[i], false).value;
     }
 }

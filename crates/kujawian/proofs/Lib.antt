@@ -1,4 +1,4 @@
--- The numbers of a reading, five numbers as a control record, and what a control write leaves.
+-- Five numbers as a control record, the numbers of a reading, and what a control write leaves.
 pub mod Fields
 pub mod Stored
 pub mod Writes

@@ -6,7 +6,7 @@ use native.Mathlib.Omega.{arith}
 use lib.ListN.{length}
 use lib.Seq.{set-get_or}
 use Rattle.state.specs.declared.Control.{Control}
-use Rattle.state.specs.declared.answer.Answer.{Answer}
+use Rattle.state.specs.Answer.{Answer}
 use Rattle.state.specs.Answer.{number_of, beside_of, numbers}
 use Rattle.state.specs.Marks.{Marked, marked}
 use Rattle.state.specs.State.{state}

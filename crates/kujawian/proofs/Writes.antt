@@ -1,12 +1,23 @@
 -- A control write on the record that C lends: what a call that stores what was done, and nothing else, gives back and leaves. Assumes nothing.
-use Rattle.std.proofs.Common.{◌≡◌, ℕ, Bool, true, false, not, sym, ap, subst, ◌∙◌}
-use lib.Dec.{T}
+use Rattle.std.proofs.Common.{◌≡◌, ℕ, Bool, true, false, Ok, Err, sym, ap, ◌∙◌}
 use Rattle.state.specs.declared.Control.{Control}
-use Rattle.state.specs.declared.answer.Answer.{Answer}
-use Rattle.state.specs.Answer.{numbers, is_done}
-use Rattle.state.specs.Outcome.{outcome, given}
+use Rattle.state.specs.declared.answer.Refusal.TheVariants.{Disabled, ValueRefused, OutOfRange}
+use Rattle.state.specs.Answer.{Answer, numbers, is_done}
+use Rattle.numbers.specs.Choice.{pick}
+use Rattle.state.specs.Outcome.{Outcome, outcome, given, refused, after_refusal}
+use Rattle.state.specs.State.{in_range}
 use Rattle.control.specs.Moves.{write_when}
-use Rattle.control.proofs.Kept.{refused-keeps}
+
+-- what was not done leaves the record that was handed over
+kept : (ranged allowed accepted : Bool) (c next : Control) (a : Answer) (after : Control)
+    → outcome a after ≡ pick ranged (pick allowed (pick accepted (outcome (Ok 0) next) (refused (Err ValueRefused) c)) (refused (Err Disabled) c))
+    (refused (Err OutOfRange) c)
+    → is_done a ≡ false → c ≡ after
+unfolding after_refusal
+kept true true true c next a after e r = let z : true ≡ false = ap (λ (o : Outcome Control). is_done o.answer) (sym e) ∙ r in cc
+kept true true false c next a after e r = sym (ap (λ (o : Outcome Control). o.left) e)
+kept true false accepted c next a after e r = sym (ap (λ (o : Outcome Control). o.left) e)
+kept false allowed accepted c next a after e r = sym (ap (λ (o : Outcome Control). o.left) e)
 
 -- `a` and `after` are what the write by value gave, `n` the number and what stands beside it, and `left` the lent record afterwards
 module _ (allowed accepted : Bool) (c next : Control) (a : Answer) (after : Control) (n : ℕ × ℕ) (left : Control) where
@@ -17,7 +28,6 @@ module _ (allowed accepted : Bool) (c next : Control) (a : Answer) (after : Cont
   -- a refusal stored nothing
   pub written-refused : (done : Bool) → outcome a after ≡ write_when allowed accepted c next → n ≡ numbers a → done ≡ is_done a → done ≡ false → left ≡ c
       → (n, left) ≡ given (write_when allowed accepted c next)
+  unfolding write_when
   written-refused done e told test refused is =
-      let not-done : T (not (is_done a)) = subst (λ (b : Bool). T (not b)) (sym refused ∙ test) tt in
-      let keeps : c ≡ after = refused-keeps allowed accepted c next (record { answer = a; control = after }) e not-done in
-      written-done e told (is ∙ keeps)
+      rw (told, is ∙ kept (in_range c) allowed accepted c next a after e (sym test ∙ refused)) (ap given e)

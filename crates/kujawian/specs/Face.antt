@@ -1,11 +1,10 @@
 -- The state as C hands it over: 1,024 numbers, element e of register r at r*64+e, the control record as five numbers, and the marks as sixteen. (The
 -- control writes take the record itself: their promises are control/specs/Moves.antt's own.)
 -- Document 01, "Numbers given back": a call returns the number; what stands beside it goes to *beside.
-use Rattle.std.specs.Prelude.{◌&&◌, List, ℕ, get_or, set}
+use Rattle.std.specs.Prelude.{◌&&◌, List, ℕ, get_or, set, Ok}
 use Rattle.numbers.specs.Choice.{pick}
 use Rattle.numbers.specs.Halves.{low}
 use Rattle.state.specs.declared.Control.{Control}
-use Rattle.state.specs.declared.answer.Answer.TheVariants.{Done}
 use Rattle.state.specs.Answer.{numbers}
 use Rattle.state.specs.Marks.{Marked, marked, no_marks}
 use Rattle.state.specs.Outcome.{Outcome}
@@ -38,11 +37,11 @@ executed control o =
 
 -- what clearing the marks gives back, and the marks after it. Document 02, "Which elements were written" (Q-3): "Clearing is a call of its own"
 abbrev pub cleared : (ℕ × ℕ) × List ℕ
-cleared = (numbers (Done 0), no_marks)
+cleared = (numbers (Ok 0), no_marks)
 
 -- what a reading gives back, and *kind_read and *bits after it: a refused one leaves them as they were
 unfoldable pub field_read : State → ℕ → ℕ → ℕ → ℕ → ℕ → (ℕ × ℕ) × ℕ × ℕ
 field_read s register element kind kind_before bits_before =
     pick (in_range s.control && is_field register element kind)
-    (numbers (Done 0), kind_shown kind (low (at s.elements register element)), bits_shown kind (low (at s.elements register element)))
+    (numbers (Ok 0), kind_shown kind (low (at s.elements register element)), bits_shown kind (low (at s.elements register element)))
     (numbers (field_answer s.control register element kind), kind_before, bits_before)

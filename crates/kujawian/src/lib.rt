@@ -1,7 +1,7 @@
 // Every call of Kujawian, over plain data as C hands it (`kujawian_c` exports them). Each returns
 // document 01's number and writes what stands beside it; after a refusal nothing else has changed.
 // To C the control record and its five numbers are the same.
-#![tactic(auto)]
+#![tactic(auto, unfolding(crate::specs::Face::left, crate::specs::Face::executed, saved::specs::Load::loading_marked))]
 
 mod answers;
 mod record;
@@ -20,7 +20,6 @@ ghost use Rattle.saved.specs.Save.{saving};
 ghost use Rattle.saved.specs.Load.{loading_marked};
 ghost use Rattle.kujawian.specs.Face.{control_of, state_of, marked_of, left, executed, cleared, field_read};
 
-use panel::Panel;
 use state::answer::Answer;
 use state::{Control, Element, Register, answer, marks};
 
@@ -65,50 +64,35 @@ pub fn kuj_write_vlr(control: &mut Control, value: u64, beside: &mut u64) -> u32
     ensures { ((result, beside.new), control.new) ≡ given (vlr_written control.old value) }
 {
     let after = control::write_vlr(*control, value);
-    if answer::is_done(after.answer) {
-        *control = after.control;
-    }
-    answers::give(after.answer, beside)
+    answers::give(answer::settle(after, control), beside)
 }
 
 pub fn kuj_write_vcr(control: &mut Control, value: u64, beside: &mut u64) -> u32
     ensures { ((result, beside.new), control.new) ≡ given (vcr_written control.old value) }
 {
     let after = control::write_vcr(*control, value);
-    if answer::is_done(after.answer) {
-        *control = after.control;
-    }
-    answers::give(after.answer, beside)
+    answers::give(answer::settle(after, control), beside)
 }
 
 pub fn kuj_write_vmr_low(control: &mut Control, value: u32, beside: &mut u64) -> u32
     ensures { ((result, beside.new), control.new) ≡ given (vmr_low_written control.old value) }
 {
     let after = control::write_vmr_low(*control, value);
-    if answer::is_done(after.answer) {
-        *control = after.control;
-    }
-    answers::give(after.answer, beside)
+    answers::give(answer::settle(after, control), beside)
 }
 
 pub fn kuj_write_vmr_high(control: &mut Control, value: u32, beside: &mut u64) -> u32
     ensures { ((result, beside.new), control.new) ≡ given (vmr_high_written control.old value) }
 {
     let after = control::write_vmr_high(*control, value);
-    if answer::is_done(after.answer) {
-        *control = after.control;
-    }
-    answers::give(after.answer, beside)
+    answers::give(answer::settle(after, control), beside)
 }
 
 pub fn kuj_write_vpsr(control: &mut Control, value: u32, beside: &mut u64) -> u32
     ensures { ((result, beside.new), control.new) ≡ given (vpsr_written control.old value) }
 {
     let after = control::write_vpsr(*control, value);
-    if answer::is_done(after.answer) {
-        *control = after.control;
-    }
-    answers::give(after.answer, beside)
+    answers::give(answer::settle(after, control), beside)
 }
 
 // Executes one instruction.
@@ -139,9 +123,7 @@ pub fn kuj_execute(
         window,
         origin,
     );
-    let given = after.answer;
-    record::store(control, after.control);
-    answers::give(given, beside)
+    answers::give(record::settle(after, control), beside)
 }
 
 // Runs a queue straight through.
@@ -164,9 +146,7 @@ pub fn kuj_run(
         cntrls,
         scalars,
     );
-    let given = after.answer;
-    record::store(control, after.control);
-    answers::give(given, beside)
+    answers::give(record::settle(after, control), beside)
 }
 
 // Runs a queue by a list of its steps. (That a control record is five numbers is its type's; a contract has no fact of it, so the last promise names it.)
@@ -193,9 +173,7 @@ pub fn kuj_run_order(
         scalars,
         order,
     );
-    let given = after.answer;
-    record::store(control, after.control);
-    answers::give(given, beside)
+    answers::give(record::settle(after, control), beside)
 }
 
 // Saves the state into lent bytes.
@@ -214,7 +192,7 @@ pub fn kuj_save(
 fn mark_loaded(marks: &mut [u64; 16], given: Answer)
     ensures { marks.new ≡ pick (is_done given) all_marks marks.old }
 {
-    if answer::is_done(given) {
+    if given.is_ok() {
         marks::mark_all(marks);
     }
 }
@@ -230,9 +208,8 @@ pub fn kuj_load(
     ensures { ((result, beside.new), elements.new, control.new, marks.new) ≡ left control.old (loading_marked file.now (marked_of elements.old control.old marks.old)) }
 {
     let after = saved::load(elements, record::of(control), file);
-    let given = after.answer;
+    let given = record::settle(after, control);
     mark_loaded(marks, given);
-    record::store(control, after.control);
     answers::give(given, beside)
 }
 
@@ -241,7 +218,7 @@ pub fn kuj_clear_marks(marks: &mut [u64; 16], beside: &mut u64) -> u32
     ensures { ((result, beside.new), marks.new) ≡ cleared }
 {
     marks::clear(marks);
-    answers::give(Answer::Done(0), beside)
+    answers::give(Ok(0), beside)
 }
 
 // The reading of an element, as its kind and its bits.
@@ -265,11 +242,11 @@ pub fn kuj_reading(
         kind,
     );
     match field {
-        Panel::Shown(reading) => {
+        Ok(reading) => {
             *kind_read = floating::kind_of(reading);
             *bits = floating::bits_of(reading);
-            answers::give(Answer::Done(0), beside)
+            answers::give(Ok(0), beside)
         }
-        Panel::Refused(given) => answers::give(given, beside),
+        Err(refusal) => answers::give(Err(refusal), beside),
     }
 }

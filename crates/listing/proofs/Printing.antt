@@ -1,22 +1,22 @@
 -- What the calls print: a state, line by line, an answer, a file. Assumes nothing.
+use Rattle.std.specs.Prelude.{Result, Ok, Err}
 use mathlib.Core.Bool.{Bool, true, false, not}
 use mathlib.Core.List.{List, [], ◌∷◌}
 use mathlib.Core.Path.{◌≡◌, refl, sym, ap, ◌∙◌}
 use Prim.Native.Nat.{ℕ, zero, suc, ◌+◌, ◌*◌, ◌/◌, ◌%◌, ◌≤◌, ◌<◌}
-use native.Mathlib.Nat.{add-zero}
 use native.Mathlib.Numerals.{add-one}
 use native.Mathlib.Omega.{arith}
 use lib.Dec.{eqb}
-use lib.ListN.{length, take, get_or, take-append-drop, length-append}
+use lib.ListN.{length, take, get_or, length-append}
 use lib.Seq.{length-take-le}
 use borrow.Author.Tests.{eq-eqb, ne_eqb, not-true, not-false, leb-true, le-leb, lt-leb}
 use Rattle.numbers.specs.Choice.{pick}
 use Rattle.numbers.specs.Over.{over}
 use Rattle.numbers.proofs.Tests.{pick_true, pick-false}
-use Rattle.state.specs.declared.answer.Answer.{Answer}
-use Rattle.state.specs.declared.answer.Answer.TheVariants.{Done, BadFile, OutOfRange}
-use Rattle.state.specs.Answer.{number_of, beside_of, is_done}
-use Rattle.state.specs.Outcome.{Outcome, outcome}
+use Rattle.state.specs.declared.answer.Refusal.{Refusal}
+use Rattle.state.specs.declared.answer.Refusal.TheVariants.{BadFile, OutOfRange}
+use Rattle.state.specs.Answer.{Answer, number_of, beside_of, refusal_beside, answered}
+use Rattle.state.specs.Outcome.{Outcome, outcome, control_left}
 use Rattle.state.specs.State.{State, state, in_range}
 use Rattle.state.specs.declared.Control.{Control}
 use Rattle.saved.specs.Load.{accepted, leading, state_in, loading}
@@ -24,56 +24,56 @@ use Rattle.saved.proofs.Loading.{gives-state}
 use Rattle.saved.proofs.RoundTrip.{ranges, control-ranged, done-accepted, refused-at}
 use Rattle.listing.specs.Text.{digits, width_of, line, element_line, element_text, element_lines, control_lines}
 use Rattle.listing.specs.Text.{listing, bad_line, answer_line, listed, printed, state_listed, file_listed, answer_listed}
-use Rattle.listing.specs.Working.{Wrote}
-use Rattle.listing.proofs.Writing.{wrote-both, digits-length, line-length, element-length, WroteLine, WroteDigits}
+use Rattle.listing.specs.declared.write.Writer.{Writer}
+use Rattle.listing.specs.Working.{Wrote, Writes}
+use Rattle.listing.proofs.Writing.{writes-none, writes-both, digits-length, line-length, element-length, WritesLine, WritesDigits}
 use Rattle.listing.proofs.Width.{width_two, width-twenty}
 
 -- ---- one element
 
-pub none-wrote : (t : List ℕ) (at k v : ℕ) → v ≡ 0 → Wrote t t at at (element_text k v) × (at ≤ at + 25)
+pub none-writes : (w : Writer) (k v : ℕ) → v ≡ 0 → Writes w w (element_text k v) × (w.at ≤ w.at + 25)
 unfolding element_text
-none-wrote t at k v e =
-    let z = eq-eqb v 0 e in
-    let w : Wrote t t at at [] = record { bytes = rw (add-zero at) (sym (take-append-drop at t)); place = sym (add-zero at) } in
-    (rw z w, omega arith)
+none-writes w k v e = let z = eq-eqb v 0 e in (rw z (writes-none w), omega arith)
 
-pub one-wrote : (t t' : List ℕ) (at r k v : ℕ) → (v ≡ 0 → ⊥) → Wrote t t' at r (element_line (k / 64) (k % 64) v)
-    → Wrote t t' at r (element_text k v) × (r ≤ at + 25)
+pub one-writes : {w₀ w₁ : Writer} (k v : ℕ) → (v ≡ 0 → ⊥) → Writes w₀ w₁ (element_line (k / 64) (k % 64) v)
+    → Writes w₀ w₁ (element_text k v) × (w₁.at ≤ w₀.at + 25)
 unfolding element_text
-one-wrote t t' at r k v e p =
-    let n = element-length (k / 64) (k % 64) v in let z = ne_eqb v 0 e in (rw z p, omega arith)
+one-writes k v e p =
+    let n = element-length (k / 64) (k % 64) v in let z = ne_eqb v 0 e in (rw z p, omega (arith, p.wrote.place))
 
 -- ---- the loop over the elements
 
-pub starts : (t els : List ℕ) → Wrote t t 0 0 (element_lines 0 els)
+pub starts : (w : Writer) (els : List ℕ) → Writes w w (element_lines 0 els)
 unfolding element_lines
-starts t els = record { bytes = refl; place = refl }
+starts w els = writes-none w
 
-pub turns : {t₀ t₁ t₂ : List ℕ} {at r : ℕ} (els : List ℕ) (k : ℕ) → Wrote t₀ t₁ 0 at (element_lines k els)
-    → Wrote t₁ t₂ at r (element_text k (get_or els k 0)) → at ≤ length t₀ → Wrote t₀ t₂ 0 r (element_lines (k + 1) els)
+pub turns : {w₀ w₁ w₂ : Writer} (els : List ℕ) (k : ℕ) → Writes w₀ w₁ (element_lines k els)
+    → Writes w₁ w₂ (element_text k (get_or els k 0)) → w₁.at ≤ length w₀.text.now → Writes w₀ w₂ (element_lines (k + 1) els)
 unfolding element_lines
-turns els k p q h = rw (add-one k) (wrote-both p q (omega arith))
-
-pub ends : {t₀ t : List ℕ} {at : ℕ} (els : List ℕ) (k : ℕ) → k ≤ 1024 → 1024 ≤ k → Wrote t₀ t 0 at (element_lines k els)
-    → Wrote t₀ t 0 at (element_lines 1024 els)
-ends els k h h' p = let n : k ≡ 1024 = omega arith in rw n at p
+turns els k p q h = rw (add-one k) (writes-both p (omega (arith, p.wrote.place)) q)
 
 -- ---- a text into lent bytes
 
 module _ (room : ℕ) (text t₀ : List ℕ) where
-  pub no_room : length t₀ < room → outcome (BadFile 0) t₀ ≡ printed room text t₀
+  pub no_room : length t₀ < room → outcome (Err (BadFile 0)) t₀ ≡ printed room text t₀
   unfolding printed
   no_room h = let l = lt-leb room (length t₀) h in rw l
 
-  has_room : room ≤ length t₀ → printed room text t₀ ≡ outcome (Done (length text)) (over t₀ 0 text)
+  has_room : room ≤ length t₀ → printed room text t₀ ≡ outcome (Ok (length text)) (over t₀ 0 text)
   unfolding printed
   has_room h = let l = le-leb room (length t₀) h in rw l
 
   -- a text that was written from the start on is printed
-  pub wrote-printed : {t₁ : List ℕ} {n : ℕ} → room ≤ length t₀ → Wrote t₀ t₁ 0 n text → outcome (Done n) t₁ ≡ printed room text t₀
+  pub wrote-printed : {t₁ : List ℕ} {n : ℕ} → room ≤ length t₀ → Wrote t₀ t₁ 0 n text → outcome (Ok n) t₁ ≡ printed room text t₀
   wrote-printed {n = n} h w =
       let z : n ≡ length text = omega (arith, w.place) in
-      (λ i. outcome (Done (z i)) (w.bytes i)) ∙ sym (has_room h)
+      (λ i. outcome (Ok (z i)) (w.bytes i)) ∙ sym (has_room h)
+
+  -- the same, by a writer that began at the start
+  pub writes-printed : {w₀ w₁ : Writer} → room ≤ length t₀ → w₀.text.now ≡ t₀ → w₀.at ≡ 0 → Writes w₀ w₁ text
+      → outcome (Ok w₁.at) w₁.text.now ≡ printed room text t₀
+  writes-printed {w₀} {w₁} h et ea w =
+      let p : Wrote t₀ w₁.text.now 0 w₁.at text = rw (← et, ← ea) w.wrote in wrote-printed h p
 
   -- what a call that printed it answered, and left, where there is room
   module _ (told : Answer) (t₁ : List ℕ) (e : outcome told t₁ ≡ printed room text t₀) (n : ℕ) (is : n ≡ beside_of told) where
@@ -100,7 +100,7 @@ pub passed : (c : Control) (fit : Bool) → fit ≡ in_range c → not fit ≡ f
 passed c fit e u = sym e ∙ not-false fit u
 
 module _ (els t₀ : List ℕ) (c : Control) where
-  pub out_of_range_lem : (fit : Bool) → fit ≡ in_range c → not fit ≡ true → outcome OutOfRange t₀ ≡ state_listed (state els c) t₀
+  pub out_of_range_lem : (fit : Bool) → fit ≡ in_range c → not fit ≡ true → outcome (Err OutOfRange) t₀ ≡ state_listed (state els c) t₀
   unfolding state_listed
   out_of_range_lem fit e u = let g = sym e ∙ not-true fit u in rw g
 
@@ -109,14 +109,17 @@ module _ (els t₀ : List ℕ) (c : Control) where
     unfolding state_listed
     ranged-listed = rw ranged
 
-    pub state-no-room : length t₀ < 25663 → outcome (BadFile 0) t₀ ≡ state_listed (state els c) t₀
+    pub state-no-room : length t₀ < 25663 → outcome (Err (BadFile 0)) t₀ ≡ state_listed (state els c) t₀
     state-no-room h = no_room 25663 (listing (state els c)) t₀ h ∙ sym ranged-listed
 
-    pub state-listed : {t₁ t₂ : List ℕ} {a n : ℕ} → 25663 ≤ length t₀ → Wrote t₀ t₁ 0 a (element_lines 1024 els) × (a ≤ 25600)
-        → Wrote t₁ t₂ a n (control_lines c) → outcome (Done n) t₂ ≡ state_listed (state els c) t₀
+    pub state-listed : {w₀ w₁ w₂ : Writer} → 25663 ≤ length t₀ → w₀.text.now ≡ t₀ → w₀.at ≡ 0
+        → Writes w₀ w₁ (element_lines 1024 els) × (w₁.at ≤ w₀.at + 25600)
+        → Writes w₁ w₂ (control_lines c) → outcome (Ok w₂.at) w₂.text.now ≡ state_listed (state els c) t₀
     unfolding listing
-    state-listed room p q =
-        wrote-printed 25663 (listing (state els c)) t₀ room (wrote-both p.0 q (omega arith)) ∙ sym ranged-listed
+    state-listed room et ea p q =
+        let l = ap length et in
+        writes-printed 25663 (listing (state els c)) t₀ room et ea (writes-both p.0 (omega (arith, p.0.wrote.place)) q)
+        ∙ sym ranged-listed
 
 -- ---- an answer
 
@@ -127,41 +130,49 @@ answer-line-length a =
     let w₁ : width_of (beside_of a) ≤ 20 = width-twenty (beside_of a) (width_of (beside_of a)) refl in
     simp (length-append, digits-length, line-length) (omega arith)
 
-pub answer-listed : (t₀ t₁ t₂ : List ℕ) (a : Answer) (x b w₀ w₁ p n : ℕ) → 42 ≤ length t₀ → x ≡ number_of a → b ≡ beside_of a
-    → w₀ ≡ width_of x → WroteDigits t₀ t₁ 0 p 10 w₀ x → w₁ ≡ width_of b → WroteLine t₁ t₂ p n (32 ∷ []) 10 w₁ b
-    → outcome (Done n) t₂ ≡ answer_listed a t₀
+pub answer-listed : {w₀ w₁ w₂ : Writer} (t₀ : List ℕ) (a : Answer) (x b n₀ n₁ : ℕ) → 42 ≤ length t₀ → w₀.text.now ≡ t₀ → w₀.at ≡ 0
+    → x ≡ number_of a → b ≡ beside_of a → n₀ ≡ width_of x → WritesDigits w₀ w₁ 10 n₀ x → n₁ ≡ width_of b
+    → WritesLine w₁ w₂ (32 ∷ []) 10 n₁ b → outcome (Ok w₂.at) w₂.text.now ≡ answer_listed a t₀
 unfolding answer_line
-answer-listed t₀ t₁ t₂ a x b w₀ w₁ p n room ex eb e₀ d e₁ l =
-    let v : Wrote t₀ t₁ 0 p (digits 10 (width_of (number_of a)) (number_of a)) = rw (← ex, ← e₀) d.0 in
-    let y : Wrote t₁ t₂ p n (line (32 ∷ []) 10 (width_of (beside_of a)) (beside_of a)) = rw (← eb, ← e₁) l.0 in
+answer-listed {w₀} {w₁} {w₂} t₀ a x b n₀ n₁ room et ea ex eb e₀ d e₁ l =
+    let v : Writes w₀ w₁ (digits 10 (width_of (number_of a)) (number_of a)) = rw (← ex, ← e₀) d.0 in
+    let y : Writes w₁ w₂ (line (32 ∷ []) 10 (width_of (beside_of a)) (beside_of a)) = rw (← eb, ← e₁) l.0 in
     let f : width_of (number_of a) ≤ 20 = width-twenty (number_of a) (width_of (number_of a)) refl in
     let k = digits-length 10 (width_of (number_of a)) (number_of a) in
-    wrote-printed 42 (answer_line a) t₀ room (wrote-both v y (omega arith))
+    let h = ap length et in
+    writes-printed 42 (answer_line a) t₀ room et ea (writes-both v (omega arith) y)
 
 -- ---- a file: what loading it gave and left
 
-module _ (file old els t₀ t₁ : List ℕ) (c c₀ : Control) (loaded : Answer)
-    (e : outcome loaded (state els c) ≡ loading file (state old c₀)) (told : Bool) (is : told ≡ is_done loaded) where
+module _ (file old els t₀ : List ℕ) (c₀ : Control) (r : Result Control Refusal)
+    (e : outcome (answered r) (state els (control_left c₀ r)) ≡ loading file (state old c₀)) where
   -- one that loaded, whose state was listed
-  pub loaded-listed : (a : Answer) → length old ≡ 1024 → told ≡ true → outcome a t₁ ≡ state_listed (state els c) t₀
+  pub loaded-listed : (t₁ : List ℕ) (c : Control) (a : Answer) → r ≡ Ok c → length old ≡ 1024 → outcome a t₁ ≡ state_listed (state els c) t₀
       → outcome a t₁ ≡ file_listed file t₀
   unfolding listed
-  loaded-listed a count u q =
-      let d = done-accepted file (state old c₀) (outcome loaded (state els c)) e (sym is ∙ u) in
+  loaded-listed t₁ c a u count q =
+      let here : outcome (Ok 0) (state els c) ≡ loading file (state old c₀) =
+      ap (λ (x : Result Control Refusal). outcome (answered x) (state els (control_left c₀ x))) (sym u) ∙ e in
+      let d = done-accepted file (state old c₀) (outcome (Ok 0) (state els c)) here refl in
       let s : state els c ≡ state_in file = d.1 ∙ gives-state file old count in
       q
       ∙ ranged-listed els t₀ c (ap (λ (x : State). in_range x.control) d.1 ∙ control-ranged file d.0)
       ∙ ap (λ (l : List ℕ). printed 25663 l t₀) (ap listing s ∙ sym (pick_true (accepted file) (listing (state_in file)) _ d.0))
 
   -- one that was refused, whose first bad record was named
-  pub refused-listed : (first w n : ℕ) → 25663 ≤ length t₀ → told ≡ false → first ≡ beside_of loaded
-      → w ≡ width_of first → WroteLine t₀ t₁ 0 n (98 ∷ 97 ∷ 100 ∷ 32 ∷ 114 ∷ 101 ∷ 99 ∷ 111 ∷ 114 ∷ 100 ∷ 32 ∷ []) 10 w first
-      → outcome (Done n) t₁ ≡ file_listed file t₀
+  pub refused-listed : {w₀ w₁ : Writer} (why : Refusal) (first n : ℕ) → 25663 ≤ length t₀ → w₀.text.now ≡ t₀ → w₀.at ≡ 0
+      → r ≡ Err why → first ≡ refusal_beside why → n ≡ width_of first
+      → WritesLine w₀ w₁ (98 ∷ 97 ∷ 100 ∷ 32 ∷ 114 ∷ 101 ∷ 99 ∷ 111 ∷ 114 ∷ 100 ∷ 32 ∷ []) 10 n first
+      → outcome (Ok w₁.at) w₁.text.now ≡ file_listed file t₀
   unfolding listed bad_line
-  refused-listed first w n room u at ew p =
-      let d = refused-at file (state old c₀) (outcome loaded (state els c)) e (sym is ∙ u) in
+  refused-listed {w₀} {w₁} why first n room et ea u at ew p =
+      let x : Outcome State = outcome (Err why) (state els (control_left c₀ (Err why))) in
+      let here : x ≡ loading file (state old c₀) =
+      ap (λ (y : Result Control Refusal). outcome (answered y) (state els (control_left c₀ y))) (sym u) ∙ e in
+      let d = refused-at file (state old c₀) x here refl in
       let f : first ≡ leading 1029 file = at ∙ ap (λ (o : Outcome State). beside_of o.answer) d.1 in
-      wrote-printed 25663 (bad_line first) t₀ room (rw (← ew) p.0)
+      let y : Writes w₀ w₁ (bad_line first) = rw (← ew) p.0 in
+      writes-printed 25663 (bad_line first) t₀ room et ea y
       ∙ ap (λ (t : List ℕ). printed 25663 t t₀) (ap bad_line f ∙ sym (pick-false (accepted file) _ (bad_line (leading 1029 file)) d.0))
 
 -- ---- 25,663 bytes hold every listing

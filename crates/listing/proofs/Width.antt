@@ -1,8 +1,8 @@
 -- How many digits plain decimal takes. Assumes nothing.
 use mathlib.Core.Logic.{⊎_elim}
-use mathlib.Core.Path.{◌≡◌, ap}
-use Prim.Native.Nat.{ℕ, zero, suc, ◌+◌, ◌-◌, ◌/◌, ◌^◌, ◌≤◌, ◌<◌}
-use native.Mathlib.Nat.{pow-suc}
+use mathlib.Core.Path.{◌≡◌, sym, ap, ◌∙◌}
+use Prim.Native.Nat.{ℕ, zero, suc, ◌+◌, ◌*◌, ◌/◌, ◌^◌, ◌≤◌, ◌<◌}
+use native.Mathlib.Nat.{pow-suc, one-le-pow}
 use native.Mathlib.Omega.{arith}
 use lib.Dec.{ltb}
 use borrow.Author.Tests.{lt-ltb, le-ltb}
@@ -59,29 +59,20 @@ pub width_two : (x w : ℕ) → x ≤ 64 → w ≡ width_of x → w ≤ 2
 unfolding width_of
 width_two x w h e = omega (arith, below 20 1 x (omega arith))
 
--- ---- the loop that counts: n digits are counted, those of `rest` are to come
+-- as many digits as the greatest power of ten in it has
+powers : (n k x : ℕ) → k < n → 10 ^ k ≤ x → x < 10 ^ suc k → decimals n x ≡ suc k
+powers zero k x h l u = absurd (omega arith)
+powers (suc n) zero x h l u = below-ten n x u
+powers (suc n) (suc k) x h l u =
+    let p = pow-suc 10 k in
+    let q = pow-suc 10 (suc k) in
+    let some = one-le-pow k 10 (omega arith) in
+    from-ten n x (omega arith) ∙ ap suc (powers n k (x / 10) (omega arith) (omega arith) (omega arith))
 
-pub counting-starts : (x : ℕ) → 1 + decimals (21 - 1) x ≡ suc (width_of x)
+pub width_log : (x k : ℕ) → k < 20 → 10 ^ k ≤ x → x < 10 * 10 ^ k → k + 1 ≡ width_of x
 unfolding width_of
-counting-starts x = omega arith
+width_log x k h l u = let q = pow-suc 10 k in let e = powers 20 k x h l (omega arith) in omega arith
 
-pub counting-turns : (n rest w : ℕ) → n ≤ 20 → 10 ≤ rest → n + decimals (21 - n) rest ≡ suc w → n + 1 + decimals (21 - (n + 1)) (rest / 10) ≡ suc w
-counting-turns n rest w h u e =
-    let p : decimals (21 - n) rest ≡ decimals (suc (20 - n)) rest = ap (λ (k : ℕ). decimals k rest) (omega arith) in
-    let q : decimals (21 - (n + 1)) (rest / 10) ≡ decimals (20 - n) (rest / 10) = ap (λ (k : ℕ). decimals k (rest / 10)) (omega arith) in
-    omega (arith, from-ten (20 - n) rest u)
-
-pub counting-ends : (n rest w : ℕ) → n ≤ 20 → rest < 10 → n + decimals (21 - n) rest ≡ suc w → n ≡ w
-counting-ends n rest w h u e =
-    let p : decimals (21 - n) rest ≡ decimals (suc (20 - n)) rest = ap (λ (k : ℕ). decimals k rest) (omega arith) in
-    omega (arith, below-ten (20 - n) rest u)
-
--- the twentieth digit is the last
-last-digit : (x : ℕ) → decimals 1 x ≡ 1
-unfolding decimals
-last-digit x = ⊎_elim (λ h. below-ten 0 x h) (λ h. from-ten 0 x h) (below_or_not x 10)
-
-pub counting-full : (n rest w : ℕ) → n ≤ 20 → 20 ≤ n → n + decimals (21 - n) rest ≡ suc w → n ≡ w
-counting-full n rest w h u e =
-    let p : decimals (21 - n) rest ≡ decimals 1 rest = ap (λ (k : ℕ). decimals k rest) (omega arith) in
-    omega (arith, last-digit rest)
+pub width_zero : (x : ℕ) → x ≡ 0 → 1 ≡ width_of x
+unfolding width_of
+width_zero x e = sym (below-ten 19 x (omega arith))

@@ -1,9 +1,9 @@
 -- Document 01, "Saved state and readings": what the lister prints, as bytes of ASCII.
-use Rattle.std.specs.Prelude.{List, [], ◌∷◌, ◌++◌, ℕ, zero, suc, ◌+◌, ◌/◌, ◌%◌, ltb, leb, eqb, length, get_or}
+use Rattle.std.specs.Prelude.{List, [], ◌∷◌, ◌++◌, ℕ, zero, suc, ◌+◌, ◌/◌, ◌%◌, ltb, leb, eqb, length, get_or, Ok, Err}
 use Rattle.numbers.specs.Choice.{pick}
 use Rattle.numbers.specs.Over.{over}
-use Rattle.state.specs.declared.answer.Answer.{Answer}
-use Rattle.state.specs.declared.answer.Answer.TheVariants.{Done, BadFile, OutOfRange}
+use Rattle.state.specs.Answer.{Answer}
+use Rattle.state.specs.declared.answer.Refusal.TheVariants.{BadFile, OutOfRange}
 use Rattle.state.specs.Answer.{number_of, beside_of}
 use Rattle.state.specs.Outcome.{Outcome, outcome, refused_bytes}
 use Rattle.state.specs.State.{State, in_range}
@@ -74,11 +74,11 @@ listed file = pick (accepted file) (listing (state_in file)) (bad_line (leading 
 -- What a call that prints a text into lent bytes answers, and the bytes after it: the text's length and the
 -- text, with the bytes beyond it kept; with less room than it asks for, 10, and nothing is written.
 unfoldable pub printed : ℕ → List ℕ → List ℕ → Outcome (List ℕ)
-printed room text bytes = pick (leb room (length bytes)) (outcome (Done (length text)) (over bytes 0 text)) (refused_bytes (BadFile 0) bytes)
+printed room text bytes = pick (leb room (length bytes)) (outcome (Ok (length text)) (over bytes 0 text)) (refused_bytes (Err (BadFile 0)) bytes)
 
 -- 25,663 bytes hold every listing; a state out of range gets 12 first
 unfoldable pub state_listed : State → List ℕ → Outcome (List ℕ)
-state_listed s bytes = pick (in_range s.control) (printed 25663 (listing s) bytes) (refused_bytes OutOfRange bytes)
+state_listed s bytes = pick (in_range s.control) (printed 25663 (listing s) bytes) (refused_bytes (Err OutOfRange) bytes)
 
 abbrev pub file_listed : List ℕ → List ℕ → Outcome (List ℕ)
 file_listed file bytes = printed 25663 (listed file) bytes

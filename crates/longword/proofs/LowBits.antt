@@ -1,5 +1,5 @@
 -- The low 32 bits of the true sum, difference and product, from the longwords as they stand.
-use Rattle.std.proofs.Common.{◌≡◌, ℕ, ◌+◌, ◌*◌, ◌/◌, ◌%◌, ◌^◌, ◌<◌, sym, ap, ◌∙◌, mul_assoc, mul_comm, arith}
+use Rattle.std.proofs.Common.{◌≡◌, ℕ, ◌+◌, ◌-◌, ◌*◌, ◌/◌, ◌%◌, ◌^◌, ◌<◌, sym, ap, ◌∙◌, mul_assoc, mul_comm, arith}
 use native.Mathlib.Nat.{mod-mod, add-mul-mod_self_right}
 use lib.Pow.{shr_le}
 use Rattle.numbers.specs.Halves.{low}
@@ -26,8 +26,10 @@ module _ (a b : ℕ) where
       sym (ap low32 (sum_top a b)
       ∙ low32-of (low a + low b) (taken a + taken b) r (omega arith) (omega arith))
 
-  pub subtracted : (r : ℕ) → r < 2 ^ 32 → (r + low b) % 2 ^ 32 ≡ low a → r ≡ low32 (difference_of a b)
-  subtracted r h e =
+  pub subtracted : (r : ℕ) → r ≡ (low a + (2 ^ 32 - low b)) % 2 ^ 32 → r ≡ low32 (difference_of a b)
+  subtracted r g =
+      let h : r < 2 ^ 32 = omega arith in
+      let e : (r + low b) % 2 ^ 32 ≡ low a = omega arith in
       sym (ap low32 (difference-top a b)
       ∙ low32-of (low a + taken b) (taken a + low b) r h (differs (low a) (low b) (low a / 2 ^ 31) (low b / 2 ^ 31) r e))
 

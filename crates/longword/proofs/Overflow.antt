@@ -80,7 +80,7 @@ kept x y z hx hy hz e =
     let h = moves z hz in
     omega arith
 
-restored : (x y : ℕ) → x < 2 ^ 32 → y < 2 ^ 32 → ((x + 2 ^ 32 - y) % 2 ^ 32 + y) % 2 ^ 32 ≡ x
+restored : (x y : ℕ) → x < 2 ^ 32 → y < 2 ^ 32 → ((x + (2 ^ 32 - y)) % 2 ^ 32 + y) % 2 ^ 32 ≡ x
 restored x y hx hy = omega arith
 
 module _ (a b : ℕ) where
@@ -93,8 +93,8 @@ module _ (a b : ℕ) where
 
   pub difference-overflow : (z : ℕ) → z ≡ low32 (difference_of a b) → eqb (bit_and (bit_xor z a) (bit_xor b a) / 2 ^ 31 % 2) 1 ≡ overflows (difference_of a b)
   difference-overflow z e =
-      let f : z ≡ (low a + 2 ^ 32 - low b) % 2 ^ 32 = e ∙ sym (subtracted a b _ (omega arith) (restored (low a) (low b) (omega arith) (omega arith))) in
-      let g : low z ≡ (low a + 2 ^ 32 - low b) % 2 ^ 32 = omega arith in
+      let f : z ≡ (low a + (2 ^ 32 - low b)) % 2 ^ 32 = e ∙ sym (subtracted a b _ refl) in
+      let g : low z ≡ (low a + (2 ^ 32 - low b)) % 2 ^ 32 = omega arith in
       let h : low a ≡ (low z + low b) % 2 ^ 32 = sym (rw g (restored (low a) (low b) (omega arith) (omega arith))) in
       let r = sum-range (low z) (low b) (low a) (omega arith) (omega arith) h in
       let k = kept (low a) (low b) (low z) (omega arith) (omega arith) (omega arith) h in

@@ -47,15 +47,15 @@ product-range x y m v i j true e hv f g h =
 product-range x y m v i j false e hv f g h =
     let k = leb-false (2 ^ 32) v e in inside (omega arith) (omega arith)
 
-wrapped : (m n v w : ℕ) → w ≡ (m + (2 ^ 62 + 2 ^ 31)) % 2 ^ 64 → (v + n) % 2 ^ 64 ≡ w
+wrapped : (m n v w : ℕ) → n < 2 ^ 64 → w ≡ (m + (2 ^ 62 + 2 ^ 31)) % 2 ^ 64 → v ≡ (w + (2 ^ 64 - n)) % 2 ^ 64
     → m + (2 ^ 62 + 2 ^ 31) + (v + n) / 2 ^ 64 * 2 ^ 64 ≡ v + n + (m + (2 ^ 62 + 2 ^ 31)) / 2 ^ 64 * 2 ^ 64
-wrapped m n v w e f = omega arith
+wrapped m n v w h e f = omega arith
 
 pub product-overflow : (a b x y w v : ℕ) → x ≡ excess a → y ≡ excess b → w ≡ (x * y + (2 ^ 62 + 2 ^ 31)) % 2 ^ 64
-    → (v + (x + y) * 2 ^ 31) % 2 ^ 64 ≡ w → v < 2 ^ 64 → leb (2 ^ 32) v ≡ overflows (product_of a b)
-product-overflow a b x y w v e f g h hv =
+    → v ≡ (w + (2 ^ 64 - (x + y) * 2 ^ 31)) % 2 ^ 64 → leb (2 ^ 32) v ≡ overflows (product_of a b)
+product-overflow a b x y w v e f g h =
     let hx : x < 2 ^ 32 = omega arith in
     let hy : y < 2 ^ 32 = omega arith in
-    let k = wrapped (x * y) ((x + y) * 2 ^ 31) v w g h in
-    let r = product-range x y (x * y) v _ _ (leb (2 ^ 32) v) refl hv (product-above x y hx hy) (product-below x y hx hy) k in
+    let k = wrapped (x * y) ((x + y) * 2 ^ 31) v w (omega arith) g h in
+    let r = product-range x y (x * y) v _ _ (leb (2 ^ 32) v) refl (omega arith) (product-above x y hx hy) (product-below x y hx hy) k in
     sym (ap overflows (product-form a b ∙ cc) ∙ overflows-of _ _ _ r)

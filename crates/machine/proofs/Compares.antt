@@ -20,14 +20,16 @@ use Rattle.numbers.proofs.SetBits.{ones-carry}
 use Rattle.numbers.proofs.Tests.{below_or_not, and_left, and_right, pick_true, pick-false}
 use Rattle.state.specs.Elements.{at, matches}
 use Rattle.opcodes.specs.declared.Instruction.{Instruction}
-use Rattle.opcodes.specs.Opcodes.{work_at, row_at, writes_mask, in_one_step}
+use Rattle.opcodes.specs.Opcodes.{writes_mask, in_one_step}
 use Rattle.opcodes.specs.ControlWord.{field_by, field_of}
 use Rattle.opcodes.specs.Works.{Writes, element, mask_bit, counted_elements, bytes, is_mask_bit, is_counted, reads, row_of}
-use Rattle.opcodes.proofs.Test.{told, each-named}
+use Rattle.opcodes.specs.declared.works.Work.{Work}
+use Rattle.opcodes.specs.declared.works.Work.TheVariants.{CompareLongword, CompareF}
+use Rattle.machine.proofs.Works.{is_compare-of}
 use Rattle.element.specs.declared.Out.{Out}
 use Rattle.element.specs.Receives.{result_of}
-use Rattle.element.specs.Working.{is_compare, compare_works}
-use Rattle.element.proofs.Groups.{compare-types}
+use Rattle.element.specs.Working.{is_compare}
+use Rattle.element.proofs.Groups.{of-compares, compare-types}
 use Rattle.element.proofs.Opposites.{opposite-types, opposite-bit}
 use Rattle.machine.specs.declared.Effect.{Effect}
 use Rattle.machine.specs.Run.{Gathered, Run, run, added, joined}
@@ -111,26 +113,25 @@ module _ (v : ℕ → ℕ) (i to : ℕ) (set : ℕ) (is : set ≡ odd_from v i (
       count : suc (to - i) ≡ to - j
       count = omega arith
 
--- ---- an F compare, from what the relation's bits <1:0> found and refused
-module _ (relation : ℕ) (scalar : Bool) (ins : Instruction) (x : ℕ) (l : List ℕ) (n : ℕ) where
-  abbrev by : ℕ → ℕ → Out
-  by r i = compared_at 13 r scalar ins x l i
+-- ---- a compare, from what the relation's bits <1:0> found and refused
+module _ (relation : ℕ) (w : Work) (is : is_compare w ≡ true) (scalar : Bool) (ins : Instruction) (x : ℕ) (l : List ℕ) (n : ℕ) where
+  abbrev at_element : ℕ → ℕ → Out
+  at_element r i = compared_at w r scalar ins x l i
 
-  pub opposite-refused : (refused : ℕ) → refused ≡ odd_from (λ i. (by (relation % 4) i).types / 4) 0 n → OddBelow (λ i. (by relation i).types / 4) n refused
-  unfolding work_at
-  opposite-refused refused q i h =
+  pub opposite_refused : (refused : ℕ) → refused ≡ odd_from (λ i. (at_element (relation % 4) i).types / 4) 0 n
+      → OddBelow (λ i. (at_element relation i).types / 4) n refused
+  opposite_refused refused q i h =
       odd-below _ n refused q i h
-      ∙ ap (λ (t : ℕ). eqb (t / 4 % 2) 1) (opposite-types relation (operand_at scalar x ins.va.0 l i) (at l ins.vb.0 i))
+      ∙ ap (λ (t : ℕ). eqb (t / 4 % 2) 1) (opposite-types relation w is (operand_at scalar x ins.va.0 l i) (at l ins.vb.0 i))
 
-  pub opposite-found : (found refused all : ℕ) → found ≡ odd_from (λ i. (by (relation % 4) i).value) 0 n
-      → refused ≡ odd_from (λ i. (by (relation % 4) i).types / 4) 0 n → n ≤ 64
+  pub opposite_found : (found refused all : ℕ) → found ≡ odd_from (λ i. (at_element (relation % 4) i).value) 0 n
+      → refused ≡ odd_from (λ i. (at_element (relation % 4) i).types / 4) 0 n → n ≤ 64
       → ((i : ℕ) → i < 64 → bit all i ≡ pick (eqb (relation / 4 % 2) 1) (not (bit found i || bit refused i)) (bit found i))
-      → OddBelow (λ i. (by relation i).value) n all
-  unfolding work_at
-  opposite-found found refused all p q s e i h =
+      → OddBelow (λ i. (at_element relation i).value) n all
+  opposite_found found refused all p q s e i h =
       e i (omega arith)
       ∙ ap₂ (λ (f r : Bool). pick (eqb (relation / 4 % 2) 1) (not (f || r)) f) (odd-below _ n found p i h) (odd-below _ n refused q i h)
-      ∙ opposite-bit relation (operand_at scalar x ins.va.0 l i) (at l ins.vb.0 i)
+      ∙ opposite-bit relation w is (operand_at scalar x ins.va.0 l i) (at l ins.vb.0 i)
 
 -- ---- the mask, as the compares of a set leave it
 no-iota : (w : Writes) → is_mask_bit w ≡ true → is_counted w ≡ false
@@ -139,13 +140,8 @@ no-iota mask_bit e = refl
 no-iota counted_elements e = sym e
 no-iota bytes e = refl
 
--- the works that write mask bits are the compares
-compare-number : (n : ℕ) → n < 256 → is_mask_bit (row_at n).writes ≡ is_compare n
-unfolding row_at row_of work_at
-compare-number = told (λ n. is_mask_bit (row_at n).writes) is_compare tt
-
-pub is-compare : (ins : Instruction) → ins.work < 256 → writes_mask ins ≡ true → is_compare ins.work ≡ true
-is-compare ins small e = sym (compare-number ins.work small) ∙ e
+pub is-compare : (ins : Instruction) → writes_mask ins ≡ true → is_compare ins.work ≡ true
+is-compare ins e = sym (is_compare-of ins.work) ∙ e
 
 none_of : (s : Bool) → (s && false) ≡ false
 none_of true = refl
@@ -158,9 +154,9 @@ record Mask : Type 0 where
 abbrev masked : ℕ → ℕ → Mask
 masked v t = record { vmr = v; types = t }
 
-module _ (ins : Instruction) (x which : ℕ) (l : List ℕ) (c : Control) (g : Gathered) (small : ins.work < 256) (compare : writes_mask ins ≡ true) where
+module _ (ins : Instruction) (x which : ℕ) (l : List ℕ) (c : Control) (g : Gathered) (compare : writes_mask ins ≡ true) where
   is_one : is_compare ins.work ≡ true
-  is_one = is-compare ins small compare
+  is_one = is-compare ins compare
 
   abbrev pub out : ℕ → Out
   out i = compared_at ins.work (ins.vc.0 % 8) ins.scalar ins x l i
@@ -173,34 +169,32 @@ module _ (ins : Instruction) (x which : ℕ) (l : List ℕ) (c : Control) (g : G
   reached m = run l (with_vmr c m.vmr) (joined g (added m.types ins.vc.0 0))
 
   module _ (i : ℕ) (m : Mask) where
-    abbrev given : ℕ → Bool → Out
+    abbrev given : Work → Bool → Out
     given n t =
-        result_of (work_at n) ins.exc (field_by (row_at n).holds ins) (pick (not (row_at n).obeys_moe) t false)
-        (pick ins.scalar x (pick (reads (row_at n).va ins.scalar) (at l ins.va.0 i) 0))
-        (pick (reads (row_at n).vb ins.scalar) (at l ins.vb.0 i) 0)
+        result_of n ins.exc (field_by (row_of n).holds ins) (pick (not (row_of n).obeys_moe) t false)
+        (pick ins.scalar x (pick (reads (row_of n).va ins.scalar) (at l ins.va.0 i) 0))
+        (pick (reads (row_of n).vb ins.scalar) (at l ins.vb.0 i) 0)
         0
 
     form : (t : Bool) (y : ℕ) → pick t x (pick (not t) y 0) ≡ pick t x y
     form true y = refl
     form false y = refl
 
-    of_number : (n : ℕ) → is_compare n ≡ true → (t : Bool) → given n t ≡ compared_at n (ins.vc.0 % 8) ins.scalar ins x l i
-    unfolding result_of work_at row_at row_of
-    of_number n e t =
-        each-named (λ (k : ℕ). given k t ≡ compared_at k (ins.vc.0 % 8) ins.scalar ins x l i) compare_works (
-          ap (λ (y : ℕ). result_of (work_at 13) false (ins.vc.0 % 8) false y (at l ins.vb.0 i) 0) (form ins.scalar (at l ins.va.0 i)),
-          (ap (λ (y : ℕ). result_of (work_at 4) false (ins.vc.0 % 8) false y (at l ins.vb.0 i) 0) (form ins.scalar (at l ins.va.0 i)), tt),
-        )
-        n e
+    of_work : (n : Work) → is_compare n ≡ true → (t : Bool) → given n t ≡ compared_at n (ins.vc.0 % 8) ins.scalar ins x l i
+    unfolding result_of row_of
+    of_work n e t =
+        of-compares (λ (k : Work). given k t ≡ compared_at k (ins.vc.0 % 8) ins.scalar ins x l i) n e
+        (ap (λ (y : ℕ). result_of CompareLongword false (ins.vc.0 % 8) false y (at l ins.vb.0 i) 0) (form ins.scalar (at l ins.va.0 i)))
+        (ap (λ (y : ℕ). result_of CompareF false (ins.vc.0 % 8) false y (at l ins.vb.0 i) 0) (form ins.scalar (at l ins.va.0 i)))
 
     receives : received ins x i (reached m) ≡ out i
     unfolding received
     receives =
         ap (λ (t : Bool). of (pick t 0 (at l ins.vc.0 i))) compare
-        ∙ of_number ins.work is_one (matches m.vmr ins.mtf i)
+        ∙ of_work ins.work is_one (matches m.vmr ins.mtf i)
       where
         of : ℕ → Out
-        of c = result_of (work_at ins.work) ins.exc (field_of ins) (chooses ins m.vmr i) (first ins x l i) (second ins l i) c
+        of c = result_of ins.work ins.exc (field_of ins) (chooses ins m.vmr i) (first ins x l i) (second ins l i) c
 
     writes : (v : ℕ) → written ins i v (reached m) ≡ run l (with_vmr c (with_bit m.vmr i (v % 2))) (reached m).gathered
     unfolding written
@@ -391,4 +385,4 @@ module _ (ins : Instruction) (x which : ℕ) (l : List ℕ) (c : Control) (g : G
       compared =
           as-effect e (after 64) same-mask is-vcr same-types is_none
           ∙ all
-          ∙ sym (pick-false (in_one_step ins) (iota_step ins x (run l c g)) _ (no-iota (row_at ins.work).writes compare))
+          ∙ sym (pick-false (in_one_step ins) (iota_step ins x (run l c g)) _ (no-iota (row_of ins.work).writes compare))

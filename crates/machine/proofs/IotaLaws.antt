@@ -10,13 +10,13 @@ use lib.Count.{ones}
 use lib.Dec.{ltb}
 use borrow.Author.Tests.{lt-ltb, le-ltb}
 use Rattle.numbers.specs.Choice.{pick}
-use Rattle.numbers.specs.Bits.{bit, without_bit}
-use Rattle.numbers.specs.Working.{low_bits, complement, lowest_one, of_ones}
+use Rattle.numbers.specs.Bits.{bit}
+use Rattle.numbers.specs.Working.{low_bits, complement, lowest_one, of_ones, TakesLowest}
 use Rattle.numbers.specs.Rising.{rising}
 use Rattle.numbers.specs.Halves.{low}
 use Rattle.numbers.proofs.BitLaws.{digit, digit-complement, bit-counts, bit_below, none_below, one-more-below}
 use Rattle.numbers.proofs.Rising.{settles}
-use Rattle.numbers.proofs.SetBits.{Walk, starts-walk, ends-walk, index_below, less-left, turns-walk, rises}
+use Rattle.numbers.proofs.SetBits.{Walk, ends-walk, turns-walk, rises}
 use Rattle.numbers.proofs.Tests.{pick_true, pick-false}
 use Rattle.numbers.proofs.Unions.{first-ones}
 use Rattle.opcodes.specs.declared.Instruction.{Instruction}
@@ -75,32 +75,17 @@ counts vmr mtf n m b small h e f = ap ones (f ∙ ap (λ (x : ℕ). low_bits x n
 abbrev pub Going : ℕ → ℕ → ℕ → List ℕ → ℕ → List ℕ → ℕ → Type 0
 Going stride vc which l₀ left l next = Walk (iota_turn stride vc) which 64 (counted l₀ 0) left (counted l next) × (next ≤ lowest_one left)
 
-module _ (stride vc which : ℕ) (l₀ : List ℕ) where
-  pub begins : which < 2 ^ 64 → Going stride vc which l₀ which l₀ 0
-  begins h = (starts-walk (iota_turn stride vc) which 64 (counted l₀ 0) h, omega arith)
+module _ (stride vc which : ℕ) (l₀ : List ℕ) (left next : ℕ) (l : List ℕ) (g : Going stride vc which l₀ left l next) where
+  pub finishes : left ≡ 0 → counted l next ≡ rising (of_ones (iota_turn stride vc) which) 64 (counted l₀ 0)
+  finishes e = ends-walk (iota_turn stride vc) which 64 (counted l₀ 0) left (counted l next) g.0 e
 
-  module _ (left next : ℕ) (l : List ℕ) (g : Going stride vc which l₀ left l next) where
-    pub finishes : left ≡ 0 → counted l next ≡ rising (of_ones (iota_turn stride vc) which) 64 (counted l₀ 0)
-    finishes e = ends-walk (iota_turn stride vc) which 64 (counted l₀ 0) left (counted l next) g.0 e
-
-    module _ (i : ℕ) (some : 0 < left) (narrow : left < 2 ^ 64) (at : i ≡ lowest_one left) where
-      pub inside : i < 64
-      inside = index_below (iota_turn stride vc) which 64 (counted l₀ 0) left (counted l next) g.0 some narrow i at
-
-      pub has_room : next < 64
-      has_room = let h = inside in let k = g.1 in omega arith
-
-      module _ (rest : ℕ) (others : rest ≡ without_bit left (lowest_one left)) where
-        pub fewer : rest < left
-        fewer = less-left (iota_turn stride vc) which 64 (counted l₀ 0) left (counted l next) g.0 some narrow i at rest others
-
-        pub goes : (l' : List ℕ) → l' ≡ put vc next (i * stride % 2 ^ 32) l → Going stride vc which l₀ rest l' (next + 1)
-        unfolding iota_turn
-        goes l' e = (
-          turns-walk (iota_turn stride vc) which 64 (counted l₀ 0) left (counted l next) g.0 some narrow i at rest others (counted l' (next + 1))
-              (ap (λ (y : List ℕ). counted y (next + 1)) e),
-          let h = rises left some narrow in let k = g.1 in rw others (omega arith),
-        )
+  pub goes : (i rest : ℕ) → TakesLowest left i rest → (l' : List ℕ) → l' ≡ put vc next (i * stride % 2 ^ 32) l → Going stride vc which l₀ rest l' (next + 1)
+  unfolding iota_turn
+  goes i rest t l' e = (
+    turns-walk (iota_turn stride vc) which 64 (counted l₀ 0) left (counted l next) g.0 t.some g.0.small i t.lowest rest t.others (counted l' (next + 1))
+        (ap (λ (y : List ℕ). counted y (next + 1)) e),
+    let h = rises left t.some g.0.small in let k = g.1 in rw t.others (omega arith),
+  )
 
 module _ (vmr : ℕ) (mtf : Bool) (stride vc : ℕ) (l : List ℕ) (word : vmr < 2 ^ 64) (vlr which : ℕ) (short : vlr ≤ 64)
     (is : which ≡ low_bits (matched vmr mtf) vlr)

@@ -1,4 +1,5 @@
 -- Laws of the machine.
+pub mod Works
 pub mod Gather
 pub mod Chosen
 pub mod LaneLoops

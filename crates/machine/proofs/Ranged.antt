@@ -12,7 +12,7 @@ use Rattle.state.specs.State.{vaer_in_range, enabled, with_vaer}
 use Rattle.state.proofs.Ranges.{Ranged, vaer-or, vaer-register, stopped as stopped-status}
 use Rattle.opcodes.specs.declared.Instruction.{Instruction}
 use Rattle.element.proofs.Types.{types-in-range}
-use Rattle.opcodes.specs.Opcodes.{work_at, writes_mask, in_one_step}
+use Rattle.opcodes.specs.Opcodes.{writes_mask, in_one_step}
 use Rattle.machine.specs.Run.{Run, stopped, joined, ended}
 use Rattle.machine.specs.Step.{received, register_bit, notes, written, worked, element_step}
 use Rattle.opcodes.specs.Masking.{operated}
@@ -55,7 +55,7 @@ module _ (ins : Instruction) (scalar : ℕ) (vc : ins.vc.0 < 16) where
   worked-ranged i r g =
       let o = received ins scalar i r in
       let w = written-ranged i o.value r g in
-      let t : vaer_in_range o.types ≡ true = types-in-range (work_at ins.work) ins.exc _ _ _ _ _ in
+      let t : vaer_in_range o.types ≡ true = types-in-range ins.work ins.exc _ _ _ _ _ in
       let n = notes (register_bit (writes_mask ins) ins.vc.0) o.types in
       record {
         control = w.control;

@@ -17,8 +17,7 @@ use Rattle.state.specs.State.{place_of}
 use Rattle.state.specs.Elements.{at, matches}
 use Rattle.state.specs.Marks.{one_element}
 use Rattle.opcodes.specs.declared.Instruction.{Instruction}
-use Rattle.opcodes.specs.Working.{is_register_work, is_lane_work}
-use Rattle.opcodes.specs.Opcodes.{work_at, writes_mask, in_one_step, ignores_moe}
+use Rattle.opcodes.specs.Opcodes.{writes_mask, in_one_step, ignores_moe}
 use Rattle.opcodes.specs.ControlWord.{field_of}
 use Rattle.element.specs.declared.Out.{Out}
 use Rattle.element.specs.Receives.{result_of}
@@ -28,9 +27,6 @@ use Rattle.machine.specs.Step.{first, second, received, register_bit, notes, wri
 use Rattle.machine.specs.Iota.{iota_step}
 use Rattle.machine.specs.Working.{matched, Lanes, lanes, lane, effected, done_for}
 use Rattle.machine.proofs.Gather.{joined-nothing, joined-twice, notes-or}
-
-pub is-lane : (ins : Instruction) → writes_mask ins ≡ false → in_one_step ins ≡ false → is_register_work ins.work ≡ true → is_lane_work ins.work ≡ true
-is-lane ins no-mask no-iota e = rw (e, no-mask, no-iota) refl
 
 -- a one of the mask or its complement is a bit that is MTF
 pub is-matched : (vmr : ℕ) (mtf : Bool) (i : ℕ) → vmr < 2 ^ 64 → i < 64 → bit (matched vmr mtf) i ≡ matches vmr mtf i
@@ -64,7 +60,7 @@ module _ (ins : Instruction) (x which : ℕ) (l : List ℕ) (c : Control) (g : G
 
     module _ (i : ℕ) (s : Lanes × ℕ) (h : i < 64) where
       of : Bool → ℕ → Out
-      of m d = result_of (work_at ins.work) ins.exc (field_of ins) m (first ins x s.0.elements i) (second ins s.0.elements i) d
+      of m d = result_of ins.work ins.exc (field_of ins) m (first ins x s.0.elements i) (second ins s.0.elements i) d
 
       abbrev out : Out
       out = of (pick (ignores_moe ins) (bit mask i) false) (at s.0.elements ins.vc.0 i)

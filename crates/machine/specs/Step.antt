@@ -7,7 +7,7 @@ use Rattle.state.specs.Elements.{at, matches}
 use Rattle.state.specs.Marks.{one_element}
 use Rattle.state.specs.State.{place_of, with_vmr}
 use Rattle.opcodes.specs.declared.Instruction.{Instruction}
-use Rattle.opcodes.specs.Opcodes.{work_at, writes_mask, ignores_moe, reads_va, reads_vb}
+use Rattle.opcodes.specs.Opcodes.{writes_mask, ignores_moe, reads_va, reads_vb}
 use Rattle.opcodes.specs.Masking.{operated}
 use Rattle.opcodes.specs.ControlWord.{field_of}
 use Rattle.element.specs.declared.Out.{Out}
@@ -34,7 +34,7 @@ chooses ins vmr i = pick (ignores_moe ins) (matches vmr ins.mtf i) false
 -- what element i receives
 unfoldable pub received : Instruction → ℕ → ℕ → Run → Out
 received ins scalar i r =
-    result_of (work_at ins.work) ins.exc (field_of ins) (chooses ins r.control.vmr i)
+    result_of ins.work ins.exc (field_of ins) (chooses ins r.control.vmr i)
     (first ins scalar r.elements i)
     (second ins r.elements i)
     (own ins r.elements i)

@@ -10,8 +10,9 @@ use Rattle.state.specs.declared.Control.{Control}
 use Rattle.state.specs.State.{place_of, with_vmr, with_vcr}
 use Rattle.state.specs.Elements.{at}
 use Rattle.opcodes.specs.declared.Instruction.{Instruction}
-use Rattle.opcodes.specs.Works.{Work, Convert}
-use Rattle.opcodes.specs.Opcodes.{work_at, in_one_step, ignores_moe}
+use Rattle.opcodes.specs.declared.works.Work.{Work}
+use Rattle.opcodes.specs.declared.works.Work.TheVariants.{Convert}
+use Rattle.opcodes.specs.Opcodes.{in_one_step, ignores_moe}
 use Rattle.opcodes.specs.ControlWord.{field_of}
 use Rattle.element.specs.declared.Out.{Out}
 use Rattle.element.specs.Receives.{result_of}
@@ -39,7 +40,7 @@ landed vc i s o = lanes (set s.elements (place_of vc i) o.value) (bit_or s.types
 unfoldable pub lane : Instruction → ℕ → ℕ → ℕ → Lanes → Lanes
 lane ins x mask i s =
     landed ins.vc.0 i s
-    (result_of (work_at ins.work) ins.exc (field_of ins) (pick (ignores_moe ins) (bit mask i) false)
+    (result_of ins.work ins.exc (field_of ins) (pick (ignores_moe ins) (bit mask i) false)
     (first ins x s.elements i)
     (second ins s.elements i)
     (at s.elements ins.vc.0 i))
@@ -60,16 +61,16 @@ abbrev pub plainly : Work → Bool → Bool → ℕ → ℕ → ℕ → Out
 plainly w exc matches a b c = result_of w exc 0 matches a b c
 
 -- a short work, whose mask bit is at hand
-abbrev pub short_lane : ℕ → Bool → ℕ → Instruction → ℕ → ℕ → Lanes → Lanes
-short_lane work exc mask ins x i s = lane_in ins.scalar (plainly (work_at work) exc (bit mask i)) ins x i s
+abbrev pub short_lane : Work → Bool → ℕ → Instruction → ℕ → ℕ → Lanes → Lanes
+short_lane work exc mask ins x i s = lane_in ins.scalar (plainly work exc (bit mask i)) ins x i s
 
 -- a conversion, which has no first operand
 abbrev pub converting : Bool → ℕ → ℕ → ℕ → ℕ → Out
 converting exc conversion a b c = result_of Convert exc conversion false 0 b c
 
 -- ---- works that write mask bits
-abbrev pub compared_at : ℕ → ℕ → Bool → Instruction → ℕ → List ℕ → ℕ → Out
-compared_at work relation scalar ins x l i = result_of (work_at work) false relation false (operand_at scalar x ins.va.0 l i) (at l ins.vb.0 i) 0
+abbrev pub compared_at : Work → ℕ → Bool → Instruction → ℕ → List ℕ → ℕ → Out
+compared_at work relation scalar ins x l i = result_of work false relation false (operand_at scalar x ins.va.0 l i) (at l ins.vb.0 i) 0
 
 -- the set of those of n numbers from i on whose v is odd; number i is bit 0
 unfoldable pub odd_from : (ℕ → ℕ) → ℕ → ℕ → ℕ

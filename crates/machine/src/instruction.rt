@@ -11,8 +11,8 @@ ghost use Rattle.machine.specs.Working.{matched as matched_of, effected as effec
 
 use crate::{Effect, Progress, iota, lanes, mask, run};
 use numbers::bits;
+use opcodes::Instruction;
 use opcodes::masking::operated;
-use opcodes::{Instruction, works};
 use state::{Element, Register, marks};
 
 // The bit of a register in VAER.
@@ -38,7 +38,7 @@ fn noted(instruction: Instruction, vmr: u64, vcr: u64, types: u64, which: u64) -
     Effect {
         vmr,
         vcr,
-        notes: run::note(register_bit(Register(instruction.vc.0 as usize)), types),
+        notes: run::note(register_bit(Register::from(instruction.vc)), types),
         wrote: which,
     }
 }
@@ -58,19 +58,11 @@ fn effect(
     requires within { (i : ℕ) → bit which i ≡ true → i < vlr }
     ensures { (c : Control) (g : Gathered) → c.vlr ≡ vlr → c.vmr ≡ vmr → c.vcr ≡ vcr → effected_of elements.new instruction result c g ≡ done_for which instruction scalar (run_of elements.old c g) }
 {
-    if works::writes_mask(instruction.work) {
-        return mask::over(
-            &*elements,
-            instruction,
-            scalar,
-            which,
-            vlr as usize,
-            vmr,
-            vcr,
-        );
+    if instruction.work.writes_mask() {
+        return mask::over(elements, instruction, scalar, which, vlr as usize, vmr, vcr);
     }
     let mask = matched(vmr, instruction.mtf);
-    if works::in_one_step(instruction.work) {
+    if instruction.work.in_one_step() {
         return iota::iota(elements, instruction, scalar, mask, vlr, vmr);
     }
     let types = lanes::over(elements, instruction, scalar, mask, which, vlr as usize);
@@ -89,16 +81,17 @@ fn one(
     requires { Below instruction × (is_register_work instruction.work ≡ true) × (i.0 < 64) × (in_one_step instruction ≡ false) }
     ensures { (c : Control) (g : Gathered) → c.vmr ≡ vmr → c.vcr ≡ vcr → effected_of elements.new instruction result c g ≡ worked instruction scalar i.0 (run_of elements.old c g) }
 {
-    if works::writes_mask(instruction.work) {
-        return mask::at(&*elements, instruction, scalar, i, vmr, vcr);
+    if instruction.work.writes_mask() {
+        return mask::at(elements, instruction, scalar, i, vmr, vcr);
     }
     let which = bits::with_bit(0, i.0, 1);
-    let types = lanes::some(
+    let types = lanes::over(
         elements,
         instruction,
         scalar,
         matched(vmr, instruction.mtf),
         which,
+        64,
     );
     noted(instruction, vmr, vcr, types, which)
 }
@@ -118,7 +111,7 @@ fn effected(
     control.vcr = effect.vcr;
     let before = progress.noted;
     let noted = run::gather(before, effect.notes);
-    marks::add(marks, Register(instruction.vc.0 as usize), effect.wrote);
+    marks::add(marks, Register::from(instruction.vc), effect.wrote);
     Progress { control, noted }
 }
 
@@ -156,8 +149,9 @@ pub fn step(
     let vlr = progress.control.vlr;
     let vmr = progress.control.vmr;
     let vcr = progress.control.vcr;
-    if works::in_one_step(instruction.work) {
-        let done = effect(elements, instruction, scalar, 0, vlr, vmr, vcr);
+    if instruction.work.in_one_step() {
+        let mask = matched(vmr, instruction.mtf);
+        let done = iota::iota(elements, instruction, scalar, mask, vlr, vmr);
         return effected(marks, progress, instruction, done);
     }
     if !bits::bit(operated(instruction, vlr, vmr), element.0) {

@@ -1,6 +1,5 @@
 // IOTA: the walk over the mask, and the count of its matching bits.
 ghost use Rattle.std.specs.Prelude.{◌≡◌, true, ℕ, ◌*◌, ◌%◌, ◌^◌, ◌<◌, ◌≤◌};
-ghost use Rattle.std.specs.Int.Count.{ones};
 ghost use Rattle.numbers.specs.Working.{of_ones};
 ghost use Rattle.numbers.specs.Rising.{rising};
 ghost use Rattle.state.specs.declared.Control.{Control};
@@ -29,26 +28,11 @@ fn walk(elements: &mut [u64; 1024], which: u64, stride: u32, vc: Register) -> us
     ensures { counted elements.new result ≡ rising (of_ones (iota_turn stride vc.0) which) 64 (counted elements.old 0) }
 {
     let mut next: usize = 0;
-    let mut left = which;
-    while left != 0 {
-        turn(
-            &mut *elements,
-            stride,
-            vc,
-            Element(bits::lowest(left)),
-            Element(next),
-        );
+    for i in bits::ones_of(which) {
+        turn(elements, stride, vc, Element(i), Element(next));
         next += 1;
-        left = bits::without_lowest(left);
     }
     next
-}
-
-// The number of ones.
-fn count(which: u64) -> u64
-    ensures { result ≡ ones which }
-{
-    u64::count_ones(which) as u64
 }
 
 // IOTA, its one step.
@@ -64,9 +48,9 @@ pub fn iota(
     ensures { (which : ℕ) (c : Control) (g : Gathered) → c.vlr ≡ vlr → c.vmr ≡ vmr → effected elements.new instruction result c g ≡ done_for which instruction stride (run_of elements.old c g) }
 {
     let which = bits::low_bits(mask, vlr);
-    let low = (stride % 4294967296) as u32;
-    walk(elements, which, low, Register(instruction.vc.0 as usize));
-    let matching = count(which);
+    let low = numbers::halves::longword(stride);
+    walk(elements, which, low, Register::from(instruction.vc));
+    let matching = which.count_ones() as u64;
     Effect {
         vmr,
         vcr: matching,

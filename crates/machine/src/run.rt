@@ -22,6 +22,7 @@ pub fn begin(control: Control) -> Progress
 }
 
 // What VAER gets where these types were recorded.
+#[tactic(auto, unfolding(crate::specs::Step::notes))]
 pub fn note(register: u64, types: u64) -> u64
     ensures { result ≡ notes_of register types }
 {
@@ -29,6 +30,7 @@ pub fn note(register: u64, types: u64) -> u64
 }
 
 // What was noted, and what VAER gets beside it.
+#[tactic(auto, unfolding(crate::specs::Run::joined))]
 pub fn gather(noted: Noted, notes: u64) -> Noted
     ensures { (m : List ℕ) (register wrote : ℕ) → gathered_in (also_marked m register wrote) result ≡ joined (gathered_in m noted) (added notes register wrote) }
 {
@@ -39,6 +41,7 @@ pub fn gather(noted: Noted, notes: u64) -> Noted
 }
 
 // The end of a run: VAER has what was gathered; VEN is cleared and AEX set if anything was recorded.
+#[tactic(auto, unfolding(crate::specs::Run::ended))]
 pub fn end(run: Progress) -> Control
     ensures { result ≡ ended run.control run.noted.vaer run.noted.recorded }
 {

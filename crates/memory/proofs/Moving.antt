@@ -1,56 +1,20 @@
 -- Laws of what is moved. Assumes nothing.
-use Rattle.std.proofs.Common.{◌≡◌, ℕ, ◌+◌, ◌-◌, ◌^◌, ◌<◌, ◌≤◌, Bool, true, false, List, take, drop, set, refl, ap, ◌∙◌, arith}
-use borrow.Rule.Slice.PartMut.{put_mid}
-use Rattle.numbers.specs.Halves.{with_low}
+use Rattle.std.specs.Prelude.{Ok, Err}
+use Rattle.std.proofs.Common.{◌≡◌, ℕ, ◌^◌, ◌<◌, Bool, true, false, List, set, refl, ap, ◌∙◌}
 use Rattle.numbers.specs.Bits.{bit}
 use Rattle.numbers.specs.Choice.{pick}
 use Rattle.numbers.specs.Rising.{rising}
 use Rattle.numbers.specs.Working.{of_ones}
-use Rattle.numbers.specs.Bytes.{bytes_of, number_of}
 use Rattle.state.specs.Marks.{Marked, also_marked}
 use Rattle.state.specs.State.{place_of}
 use Rattle.state.proofs.Marking.{marks-rise}
 use Rattle.state.specs.Elements.{at}
 use Rattle.numbers.proofs.Rising.{alike}
-use Rattle.memory.specs.declared.Test.{Test}
-use Rattle.memory.specs.declared.Test.TheVariants as test
-use Rattle.memory.specs.declared.Search.{Search}
-use Rattle.memory.specs.declared.Search.TheVariants as search
 use Rattle.memory.specs.Works.{size_of}
 use Rattle.memory.specs.Window.{number_at, put_at}
-use Rattle.memory.specs.Address.{saying, or_else, verdict, test_step, tested}
+use Rattle.memory.specs.Address.{Test, Search, saying, or_else, verdict, test_step, tested}
 use Rattle.memory.specs.Move.{received, moves_by, load_step, mark_step, store_step, unless_bad, moved_by}
-use Rattle.memory.proofs.Windows.{put}
 use Rattle.memory.proofs.Testing.{all-fine}
-
--- the bytes of a quadword, and of a longword
-module _ (quadword : Bool) (offset n : ℕ) (h : offset + size_of quadword ≤ n) where
-  pub eight-fit : quadword ≡ true → offset + 8 ≤ n
-  eight-fit e = rw e at h
-
-  pub four-fit : quadword ≡ false → offset + 4 ≤ n
-  four-fit e = rw e at h
-
--- what was read of a part
-part_of : (size offset : ℕ) → offset + size - offset ≡ size
-part_of size offset = omega arith
-
-module _ (quadword : Bool) (w : List ℕ) (offset old r : ℕ) where
-  pub quadword-received : quadword ≡ true → r ≡ number_of (take (offset + 8 - offset) (drop offset w))
-      → r ≡ received quadword old (number_at (size_of quadword) w offset)
-  quadword-received e f = rw (e, ← part_of 8 offset) f
-
-  pub longword-received : (v : ℕ) → quadword ≡ false → v ≡ number_of (take (offset + 4 - offset) (drop offset w)) → r ≡ with_low old v
-      → r ≡ received quadword old (number_at (size_of quadword) w offset)
-  longword-received v e f g = g ∙ ap (with_low old) (f ∙ ap (λ (k : ℕ). number_of (take k (drop offset w))) (part_of 4 offset)) ∙ rw e
-
--- a part that came back
-module _ (quadword : Bool) (w part : List ℕ) (offset v : ℕ) where
-  pub quadword-put : quadword ≡ true → part ≡ bytes_of 8 v → put_mid offset (offset + 8 - offset) w part ≡ put_at (size_of quadword) w offset v
-  quadword-put e f = rw e (put 8 w part offset v f)
-
-  pub longword-put : quadword ≡ false → part ≡ bytes_of 4 v → put_mid offset (offset + 4 - offset) w part ≡ put_at (size_of quadword) w offset v
-  longword-put e f = rw e (put 4 w part offset v f)
 
 -- the steps of elements that are operated on
 unfoldable pub load_at : Bool → ℕ → (ℕ → ℕ) → List ℕ → ℕ → List ℕ → List ℕ
@@ -94,10 +58,10 @@ module _ (quadword : Bool) (vc : ℕ) (chosen : ℕ → Bool) (place place' : �
 
 -- and only those that are fine
 module _ (store quadword : Bool) (vc : ℕ) (chosen : ℕ → Bool) (tests tests' : ℕ → Test) (place place' : ℕ → ℕ) (n : ℕ) (b : Marked) (w : List ℕ)
-    (same : (i : ℕ) → tests i ≡ tests' i) (there : (i : ℕ) → tests i ≡ test.Fine → place i ≡ place' i) where
+    (same : (i : ℕ) → tests i ≡ tests' i) (there : (i : ℕ) → tests i ≡ Ok tt → place i ≡ place' i) where
   tests_agree : tested chosen tests n ≡ tested chosen tests' n
   unfolding test_step
-  tests_agree = alike _ _ n search.Fine (λ i a _. ap (λ (t : Test). or_else a (saying i (verdict (chosen i) t))) (same i))
+  tests_agree = alike _ _ n (Ok tt) (λ i a _. ap (λ (t : Test). or_else a (saying i (verdict (chosen i) t))) (same i))
 
   pub moved-agree : moved_by store quadword vc chosen tests place n b w ≡ moved_by store quadword vc chosen tests' place' n b w
   moved-agree =
@@ -107,7 +71,7 @@ module _ (store quadword : Bool) (vc : ℕ) (chosen : ℕ → Bool) (tests tests
       go : (a : Search) → tested chosen tests n ≡ a
           → unless_bad a b w (moves_by store quadword vc chosen place n b.state.elements b.marks w)
           ≡ unless_bad a b w (moves_by store quadword vc chosen place' n b.state.elements b.marks w)
-      go search.Fine e =
-          ap (unless_bad search.Fine b w)
+      go (Ok _) e =
+          ap (unless_bad (Ok tt) b w)
           (moves-agree quadword vc chosen place place' n b.state.elements b.marks w (λ i h c. there i (all-fine chosen tests n i e h c)) store)
-      go (search.Bad f k) e = refl
+      go (Err r) e = refl

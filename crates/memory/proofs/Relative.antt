@@ -1,11 +1,11 @@
 -- A window at an origin is one at 0, where addresses are taken from the origin, modulo 2^32. Assumes nothing.
+use Rattle.std.specs.Prelude.{Ok}
 use Rattle.std.proofs.Common.{◌≡◌, ℕ, ◌+◌, ◌-◌, ◌*◌, ◌%◌, ◌^◌, ◌<◌, ◌≤◌, Bool, true, false, ◌&&◌, eqb, leb, List, length, refl, ap, ap₂, arith, le-leb}
 use native.Mathlib.Decide.{dec_le}
 use borrow.Author.Tests.{lt-leb}
 use Rattle.numbers.specs.Halves.{low}
 use Rattle.state.specs.Elements.{at}
 use Rattle.state.specs.Marks.{Marked}
-use Rattle.memory.specs.declared.Test.TheVariants as test
 use Rattle.memory.specs.Works.{size_of}
 use Rattle.memory.specs.Address.{address_by, found, test_of}
 use Rattle.memory.specs.Working.{test_at, tests_at}
@@ -42,7 +42,7 @@ module _ (origin bytes : ℕ) (straight : origin % 8 ≡ 0) (fits : origin + byt
   near : place + size ≤ bytes → address ≡ origin + place
   near h = let b = f.back in let some = size-some quadword size refl in omega (arith, h, fits, some)
 
-  pub same_place : test_at size bytes place ≡ test.Fine → place ≡ address - origin
+  pub same_place : test_at size bytes place ≡ Ok tt → place ≡ address - origin
   same_place e = let n = near (within size bytes place e) in omega (arith, n)
 
   inside-same : leb (place + size) bytes ≡ (leb origin address && leb (address + size) (origin + bytes))

@@ -1,25 +1,19 @@
 -- Document 01, "Memory": all are tested before anything is moved; then the operated elements move, in rising order, so that the highest wins.
 -- Document 02, "Which elements were written" (Q-3): loads mark the operated elements; a store writes no element, so it marks none.
-use Rattle.std.specs.Prelude.{ℕ, ◌+◌, ◌-◌, Bool, List, length, slice_set}
+use Rattle.std.specs.Prelude.{ℕ, ◌+◌, ◌-◌, Bool, List, length, slice_set, Ok, Err}
 use Rattle.numbers.specs.Choice.{pick}
 use Rattle.numbers.specs.Halves.{with_low}
 use Rattle.numbers.specs.Rising.{rising}
-use Rattle.state.specs.declared.answer.Answer.{Answer}
-use Rattle.state.specs.declared.answer.Answer.TheVariants.{Done, WindowRefused, Misaligned, OutsideWindow}
+use Rattle.state.specs.declared.answer.Refusal.TheVariants.{WindowRefused}
 use Rattle.state.specs.Marks.{Marked, marked, also_marked, one_element}
 use Rattle.state.specs.Outcome.{Outcome, outcome, refused_window}
 use Rattle.state.specs.State.{state, place_of}
 use Rattle.state.specs.Elements.{at}
 use Rattle.opcodes.specs.declared.Instruction.{Instruction}
-use Rattle.memory.specs.declared.Fault.{Fault}
-use Rattle.memory.specs.declared.Fault.TheVariants as fault
-use Rattle.memory.specs.declared.Test.{Test}
-use Rattle.memory.specs.declared.Search.{Search}
-use Rattle.memory.specs.declared.Search.TheVariants as search
 use Rattle.memory.specs.Works.{is_store, is_quadword, size_of}
 use Rattle.memory.specs.Window.{allowed, number_at, put_at}
 use Rattle.opcodes.specs.Masking.{operated}
-use Rattle.memory.specs.Address.{address_of, test_of, tested}
+use Rattle.memory.specs.Address.{Test, Search, address_of, test_of, tested}
 
 -- what a loaded element holds: a quadword is all of it, a longword its low half, and the high half is kept
 abbrev pub received : Bool → ℕ → ℕ → ℕ
@@ -45,15 +39,10 @@ moves_by store quadword vc chosen place n l m w =
     (l, m, rising (store_step quadword vc chosen place l) n w)
     (rising (load_step quadword vc chosen place w) n l, rising (mark_step vc chosen) n m, w)
 
--- the answer for a bad element
-abbrev pub bad_element : Fault → ℕ → Answer
-bad_element fault.Misaligned element = Misaligned element
-bad_element fault.Outside element = OutsideWindow element
-
 -- the control record stays; where an element is bad nothing is moved
 abbrev pub unless_bad : Search → Marked → List ℕ → List ℕ × List ℕ × List ℕ → Outcome (Marked × List ℕ)
-unless_bad search.Fine b w x = outcome (Done 0) (marked (state x.0 b.state.control) x.1, x.2)
-unless_bad (search.Bad f element) b w x = refused_window (bad_element f element) b w
+unless_bad (Ok _) b w x = outcome (Ok 0) (marked (state x.0 b.state.control) x.1, x.2)
+unless_bad (Err refused) b w x = refused_window (Err refused) b w
 
 -- all are tested before anything is moved
 abbrev pub moved_by : Bool → Bool → ℕ → (ℕ → Bool) → (ℕ → Test) → (ℕ → ℕ) → ℕ → Marked → List ℕ → Outcome (Marked × List ℕ)
@@ -71,4 +60,4 @@ moved_of b ins base stride w origin =
     b.state.control.vlr
     b
     w)
-    (refused_window WindowRefused b w)
+    (refused_window (Err WindowRefused) b w)

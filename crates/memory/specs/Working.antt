@@ -1,11 +1,8 @@
 -- The tests and the moves as the code makes them, over places in a window that stands at 0. No public promise cites this.
-use Rattle.std.specs.Prelude.{◌≡◌, ℕ, ◌+◌, ◌%◌, ◌<◌, ◌≤◌, Bool, true, List, length, ◌==◌, nat_le, slice_index}
+use Rattle.std.specs.Prelude.{◌≡◌, ℕ, ◌+◌, ◌%◌, ◌<◌, ◌≤◌, Bool, true, List, length, ◌==◌, nat_le, slice_index, Ok}
 use Rattle.numbers.specs.Bits.{bit}
-use Rattle.memory.specs.declared.Addressing.{Addressing}
-use Rattle.memory.specs.declared.Test.{Test}
-use Rattle.memory.specs.declared.Search.{Search}
-use Rattle.memory.specs.declared.Search.TheVariants as search
-use Rattle.memory.specs.Address.{address_by, found, tested}
+use Rattle.memory.specs.declared.access.Addressing.{Addressing}
+use Rattle.memory.specs.Address.{Test, Search, address_by, found, tested}
 
 -- the same as an Addressing says it
 abbrev pub address_in : Addressing → List ℕ → ℕ → ℕ
@@ -33,4 +30,4 @@ AllWithin size bytes chosen place n = (i : ℕ) → i < n → chosen i ≡ true 
 -- what the tests of a set leave: what they found and, if no element of the set is bad, a list of addresses that has those of the set
 pub record Searched (size bytes which : ℕ) (place : ℕ → ℕ) (r : Search) (addresses : List ℕ) : Type 0 where
   pub told : r ≡ tested (bit which) (tests_at size bytes place) 64
-  pub kept : r ≡ search.Fine → (i : ℕ) → bit which i ≡ true → slice_index addresses i ≡ place i
+  pub kept : r ≡ Ok tt → (i : ℕ) → bit which i ≡ true → slice_index addresses i ≡ place i

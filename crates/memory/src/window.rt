@@ -4,6 +4,7 @@ ghost use Rattle.numbers.specs.Bytes.{bytes_of};
 ghost use Rattle.memory.specs.Window.{allowed as allowed_of};
 
 // A window of so many bytes may stand at an origin.
+#[tactic(auto, unfolding(crate::specs::Window::allowed))]
 pub(crate) fn allowed(bytes: u64, origin: u64) -> bool
     ensures { result ≡ allowed_of bytes origin }
 {
@@ -18,10 +19,7 @@ pub(crate) fn put_longword(part: &mut [u8], v: u64)
     requires { length part.old ≡ 4 }
     ensures { part.new ≡ bytes_of 4 v }
 {
-    part[0] = (v % 256) as u8;
-    part[1] = (v / 256 % 256) as u8;
-    part[2] = (v / 256 / 256 % 256) as u8;
-    part[3] = (v / 256 / 256 / 256 % 256) as u8;
+    part.copy_from_slice(&(numbers::halves::low(v) as u32).to_le_bytes());
 }
 
 // Writes a quadword into eight bytes.
@@ -29,12 +27,5 @@ pub(crate) fn put_quadword(part: &mut [u8], v: u64)
     requires { length part.old ≡ 8 }
     ensures { part.new ≡ bytes_of 8 v }
 {
-    part[0] = (v % 256) as u8;
-    part[1] = (v / 256 % 256) as u8;
-    part[2] = (v / 256 / 256 % 256) as u8;
-    part[3] = (v / 256 / 256 / 256 % 256) as u8;
-    part[4] = (v / 256 / 256 / 256 / 256 % 256) as u8;
-    part[5] = (v / 256 / 256 / 256 / 256 / 256 % 256) as u8;
-    part[6] = (v / 256 / 256 / 256 / 256 / 256 / 256 % 256) as u8;
-    part[7] = (v / 256 / 256 / 256 / 256 / 256 / 256 / 256 % 256) as u8;
+    part.copy_from_slice(&v.to_le_bytes());
 }

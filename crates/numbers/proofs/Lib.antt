@@ -1,5 +1,6 @@
 -- Laws of the definitions on numbers and lists.
 pub mod BitLaws
+pub mod Chunks
 pub mod Differences
 pub mod LittleEndian
 pub mod Longwords

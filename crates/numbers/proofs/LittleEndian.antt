@@ -6,11 +6,12 @@ use Prim.Native.Nat.{ℕ, zero, suc, ◌+◌, ◌*◌, ◌/◌, ◌%◌, ◌^◌
 use native.Mathlib.Nat.{pow-suc}
 use native.Mathlib.Omega.{arith}
 use lib.Dec.{eqb}
-use lib.ListN.{length, get_or, take, drop}
+use lib.ListN.{length, take, drop}
 use lib.Seq.{get_or-drop}
 use borrow.Author.Tests.{eqb-true}
+use borrow.Author.Rules.{rules}
+use Rattle.std.specs.Int.{to_le_bytes, w64}
 use Rattle.numbers.specs.Bytes.{Bytes, bytes_of, number_of, all_zero}
-use Rattle.numbers.proofs.Places.{values_below, places}
 use Rattle.numbers.proofs.Tests.{and_left, and_right}
 
 pub bytes_drop : (n : ℕ) (l : List ℕ) → Bytes l → Bytes (drop n l)
@@ -58,6 +59,6 @@ number-below (b ∷ l) h =
     let p : b + 256 * number_of l < 256 ^ length l * 256 = omega (arith, h zero) in
     subst (λ (m : ℕ). b + 256 * number_of l < m) (sym (pow-suc 256 (length l))) p
 
--- the number that all of a part makes
-pub whole : (size : ℕ) (part : List ℕ) → length part ≡ size → number_of (values_below size (λ (i : ℕ). get_or part i 0)) ≡ number_of part
-whole size part e = sym (ap number_of (places size part e))
+-- the eight bytes that the library makes of a number
+pub eight-bytes : (x : ℕ) → to_le_bytes w64 x ≡ bytes_of 8 x
+eight-bytes x = search rules

@@ -1,21 +1,13 @@
--- Laws of `over` and of runs of stores. Assumes nothing.
+-- Laws of `over`. Assumes nothing.
 use mathlib.Core.Path.{◌≡◌, sym, ap, ◌∙◌}
-use mathlib.Core.List.{List, [], ◌++◌, append_assoc, append-nil}
+use mathlib.Core.List.{List, ◌++◌, append_assoc}
 use Prim.Native.Nat.{ℕ, ◌+◌, ◌-◌, ◌≤◌}
 use native.Mathlib.Nat.{add_assoc}
 use native.Mathlib.Omega.{arith}
-use lib.ListN.{length, take, drop, length-append, length-drop, drop_of_length-le}
-use lib.Seq.{sets, sets-eq, take_at, drop_at, drop-drop, length-take-le}
+use lib.ListN.{length, take, drop, length-append, length-drop}
+use lib.Seq.{take_at, drop_at, drop-drop, length-take-le}
 use borrow.Rule.Slice.PartMut.{put_mid, Post-is}
 use Rattle.numbers.specs.Over.{over}
-
--- stores at every place of a list leave what was stored
-pub sets-whole : (vs l : List ℕ) → length l ≡ length vs → sets l 0 vs ≡ vs
-sets-whole vs l e =
-    let h : 0 + length vs ≤ length l = omega arith in
-    let e' : length l ≤ 0 + length vs = omega arith in
-    let d : drop (0 + length vs) l ≡ [] = drop_of_length-le l e' in
-    sets-eq vs l 0 h ∙ ap (λ (r : List ℕ). vs ++ r) d ∙ append-nil vs
 
 -- what stands before the end of what was written
 head-length : (l : List ℕ) (at : ℕ) (new : List ℕ) → at + length new ≤ length l → length (take at l ++ new) ≡ at + length new

@@ -87,6 +87,14 @@ module _ (x i : ℕ) (h : Lowest x i) where
   inside n small =
       ⊎_elim (λ (g : i < n). g) (λ (g : n ≤ i). absurd (true-not-false (sym (bit-above x n i small g) ∙ bit_is x i 1 h.one))) (below_or_not i n)
 
+-- of 64 bits that are not all zero
+module _ (x : ℕ) (h : 0 < x) (small : x < 2 ^ 64) where
+  pub lowest-below : lowest_one x < 64
+  lowest-below = inside x (lowest_one x) (lowest 64 x h small) 64 small
+
+  pub lowest-smaller : without_bit x (lowest_one x) < x
+  lowest-smaller = less x (lowest_one x) (lowest 64 x h small) h
+
 -- a bit turned to zero, and the others
 module _ (x i : ℕ) where
   is : with_bit x i 0 ≡ without_bit x i

@@ -1,8 +1,8 @@
 -- Sets of elements as the ones of a number, as the code takes them. No public promise cites this.
-use Rattle.std.specs.Prelude.{Bool, not, ◌&&◌, ◌||◌, ◌≡◌, ℕ, ◌-◌, ◌%◌, ◌^◌, ◌<◌, ltb}
+use Rattle.std.specs.Prelude.{Bool, not, ◌&&◌, ◌||◌, ◌≡◌, ℕ, ◌-◌, ◌%◌, ◌^◌, ◌<◌, ltb, Option, MatchOption}
 use Rattle.std.specs.Bool.{beq}
 use Rattle.std.specs.Int.Count.{count_trailing_zeros}
-use Rattle.numbers.specs.Bits.{bit}
+use Rattle.numbers.specs.Bits.{bit, without_bit}
 use Rattle.numbers.specs.Choice.{pick}
 
 -- the n lowest bits of x
@@ -16,6 +16,17 @@ complement w x = 2 ^ w - 1 - x
 -- the number of the lowest one of 64 bits; 64 if there is none
 abbrev pub lowest_one : ℕ → ℕ
 lowest_one x = count_trailing_zeros 64 x
+
+-- i is the lowest one of s, which has some among 64 bits, and t is s without it
+pub record TakesLowest (s i t : ℕ) : Type 0 where
+  pub some : 0 < s
+  pub below : i < 64
+  pub lowest : i ≡ lowest_one s
+  pub others : t ≡ without_bit s (lowest_one s)
+
+-- a walk over the ones of s: the lowest comes, and t is left; where there is none, nothing comes and none are left
+abbrev pub GivesLowest : ℕ → Option ℕ → ℕ → Type 0
+GivesLowest s r t = MatchOption r ((s ≡ 0) × (t ≡ 0)) (λ i. TakesLowest s i t)
 
 -- number i is chosen: always, or where bit i of a mask is as asked
 abbrev pub chosen : Bool → Bool → ℕ → ℕ → Bool

@@ -2,7 +2,10 @@
 ghost use Rattle.std.specs.Prelude.{◌≡◌, ℕ, ◌<◌, ◌≤◌};
 ghost use Rattle.numbers.specs.Choice.{pick};
 ghost use Rattle.numbers.specs.Bits.{bit as bit_of, without_bit, with_bit};
-ghost use Rattle.numbers.specs.Working.{low_bits, lowest_one, chosen, OnesBelow};
+ghost use Rattle.std.specs.Iterator.{at_most};
+ghost use Rattle.numbers.specs.Working.{low_bits, lowest_one, chosen, OnesBelow, GivesLowest};
+
+use std::marker::Model;
 
 // Bit i is one.
 pub fn bit(x: u64, i: usize) -> bool
@@ -33,7 +36,7 @@ pub fn lowest(x: u64) -> usize
     requires { 0 < x }
     ensures { result ≡ lowest_one x }
 {
-    u64::trailing_zeros(x) as usize
+    x.trailing_zeros() as usize
 }
 
 // x with its lowest one turned to zero.
@@ -42,6 +45,42 @@ pub fn without_lowest(x: u64) -> u64
     ensures { result ≡ without_bit x (lowest_one x) }
 {
     x & (x - 1)
+}
+
+// The ones that are left of a set, the lowest first.
+#[derive(Drop)]
+pub struct Ones {
+    left: u64,
+}
+
+impl Model for Ones {
+    ghost Value = { ℕ };
+
+    ghost view = { λ s. s.left };
+}
+
+impl Iterator for Ones {
+    type Item = usize;
+
+    ghost next_gives = { GivesLowest };
+
+    ghost remaining = { at_most };
+
+    fn next(&mut self) -> Option<usize> {
+        if self.left == 0 {
+            return None;
+        }
+        let i = lowest(self.left);
+        self.left = without_lowest(self.left);
+        Some(i)
+    }
+}
+
+// The numbers of the ones of x, the lowest first.
+pub fn ones_of(x: u64) -> Ones
+    ensures { result ≡ x }
+{
+    Ones { left: x }
 }
 
 // The set of the numbers below n: all of them, or those whose bit of a mask is as asked.
@@ -55,7 +94,7 @@ pub fn chosen_below(masked: bool, asked: bool, mask: u64, n: u64) -> u64
         }
         return low_bits(!mask, n);
     }
-    low_bits(18446744073709551615, n)
+    low_bits(u64::MAX, n)
 }
 
 // x with the bits of a set replaced by y's.

@@ -6,28 +6,35 @@ ghost use Rattle.numbers.specs.Halves.{low as low_of, high as high_of, with_low,
 pub fn low(x: u64) -> u64
     ensures { result ≡ low_of x }
 {
-    x % 4294967296
+    x & 0xFFFF_FFFF
+}
+
+// The same as a longword.
+pub fn longword(x: u64) -> u32
+    ensures { result ≡ low_of x }
+{
+    low(x) as u32
 }
 
 // Bits <63:32>.
 pub fn high(x: u64) -> u64
     ensures { result ≡ high_of x }
 {
-    x / 4294967296
+    x >> 32
 }
 
 // x with bits <31:0> replaced.
 pub fn with_low(x: u64, v: u32) -> u64
     ensures { result ≡ with_low x v }
 {
-    x / 4294967296 * 4294967296 + v as u64
+    (x >> 32 << 32) | v as u64
 }
 
 // x with bits <63:32> replaced.
 pub fn with_high(x: u64, v: u32) -> u64
     ensures { result ≡ with_high x v }
 {
-    v as u64 * 4294967296 + x % 4294967296
+    ((v as u64) << 32) | low(x)
 }
 
 // i times a stride mod 2^32, for the element i.
@@ -35,5 +42,5 @@ pub fn multiple(i: usize, stride: u32) -> u32
     requires { i < 64 }
     ensures { result ≡ i * stride % 2 ^ 32 }
 {
-    (i as u64 * stride as u64 % 4294967296) as u32
+    (i as u32).wrapping_mul(stride)
 }

@@ -2,5 +2,4 @@
 pub mod Test
 pub mod Rule
 pub mod OperatedOn
-pub mod Words
 pub mod Passed

@@ -1,12 +1,12 @@
 -- Document 01, "Opcodes": the control word of an accepted opcode. Relations, conversions: "What an
 -- element receives"; gather with Vb = Vc: "Memory".
-use Rattle.std.specs.Prelude.{Bool, false, not, ◌&&◌, ◌||◌, ℕ, ◌/◌, ◌%◌, ◌^◌, eqb}
+use Rattle.std.specs.Prelude.{Bool, false, not, ◌&&◌, ◌||◌, ℕ, ◌/◌, ◌%◌, ◌^◌, Option, Some, None, eqb}
 use Rattle.numbers.specs.Choice.{pick}
-use Rattle.opcodes.specs.Works.{Holds, registers, relation, relation_alone, conversion, is_load}
-use Rattle.opcodes.specs.Opcodes.{row_at}
 use Rattle.opcodes.specs.declared.Instruction.{Instruction}
-use Rattle.opcodes.specs.declared.ControlWord.{ControlWord}
-use Rattle.opcodes.specs.declared.ControlWord.TheVariants.{Accepted, Reserved}
+use Rattle.opcodes.specs.declared.works.Work.{Work}
+use Rattle.opcodes.specs.declared.works.Holds.{Holds}
+use Rattle.opcodes.specs.declared.works.Holds.TheVariants.{Registers, Relation, RelationAlone, Conversion}
+use Rattle.opcodes.specs.Works.{row_of, is_load}
 
 -- <15> MOE
 abbrev pub moe_of : ℕ → Bool
@@ -32,8 +32,8 @@ vb_of c = c / 2 ^ 4 % 2 ^ 4
 abbrev pub vc_of : ℕ → ℕ
 vc_of c = c % 2 ^ 4
 
--- the instruction of a work's number, a form and a control word; <12> is ignored
-abbrev pub instruction_of : ℕ → Bool → ℕ → Instruction
+-- the instruction of a work, a form and a control word; <12> is ignored
+abbrev pub instruction_of : Work → Bool → ℕ → Instruction
 instruction_of w s c = record {
   work = w;
   scalar = s;
@@ -55,28 +55,28 @@ conversion_refused v = not (eqb v 5 || eqb v 4 || eqb v 1)
 
 -- what a control word holds beside registers; where a relation stands alone (F compare), bit <3> is refused too
 abbrev pub held_refused : Holds → Instruction → Bool
-held_refused registers i = false
-held_refused relation i = relation_refused i.vc.0
-held_refused relation_alone i = relation_refused i.vc.0 || eqb (i.vc.0 / 8) 1
-held_refused conversion i = conversion_refused i.va.0
+held_refused Registers i = false
+held_refused Relation i = relation_refused i.vc.0
+held_refused RelationAlone i = relation_refused i.vc.0 || eqb (i.vc.0 / 8) 1
+held_refused Conversion i = conversion_refused i.va.0
 
 -- a gather with Vb = Vc is refused
 abbrev pub gather_refused : Instruction → Bool
-gather_refused i = is_load (row_at i.work).moves && (i.scalar && eqb i.vb.0 i.vc.0)
+gather_refused i = is_load (row_of i.work).moves && (i.scalar && eqb i.vb.0 i.vc.0)
 
 unfoldable pub refused : Instruction → Bool
-refused i = held_refused (row_at i.work).holds i || gather_refused i
+refused i = held_refused (row_of i.work).holds i || gather_refused i
 
--- what an accepted opcode's control word says
-unfoldable pub control_word_of : ℕ → Bool → ℕ → ControlWord
-control_word_of w s c = pick (refused (instruction_of w s c)) Reserved (Accepted (instruction_of w s c))
+-- what an accepted opcode's control word says: an instruction, or it is reserved
+unfoldable pub control_word_of : Work → Bool → ℕ → Option Instruction
+control_word_of w s c = pick (refused (instruction_of w s c)) None (Some (instruction_of w s c))
 
 -- ---- what an instruction takes from its fields beside registers: the conversion, the relation in <2:0>, or nothing
 abbrev pub field_by : Holds → Instruction → ℕ
-field_by registers i = 0
-field_by relation i = i.vc.0 % 8
-field_by relation_alone i = i.vc.0 % 8
-field_by conversion i = i.va.0
+field_by Registers i = 0
+field_by Relation i = i.vc.0 % 8
+field_by RelationAlone i = i.vc.0 % 8
+field_by Conversion i = i.va.0
 
 abbrev pub field_of : Instruction → ℕ
-field_of i = field_by (row_at i.work).holds i
+field_of i = field_by (row_of i.work).holds i

@@ -1,13 +1,12 @@
 -- Document 01, "Opcodes": the table of accepted opcodes, with division's entry (document 02, Q-1).
-use Rattle.std.specs.Prelude.{Bool, true, false, not, ◌||◌, List, [], ◌∷◌, ℕ, zero, suc, eqb}
+use Rattle.std.specs.Prelude.{Bool, true, false, not, ◌||◌, List, [], ◌∷◌, ℕ, Option, Some, None, eqb}
 use Rattle.numbers.specs.Choice.{pick}
-use Rattle.opcodes.specs.declared.Opcode.{Opcode}
-use Rattle.opcodes.specs.declared.Opcode.TheVariants.{Accepted, Reserved}
 use Rattle.opcodes.specs.declared.Instruction.{Instruction}
-use Rattle.opcodes.specs.Works.{Work, Row, row_of, reads, is_mask_bit, is_counted, is_move}
-use Rattle.opcodes.specs.Works.{NoWork, AddLongword, SubtractLongword, MultiplyLongword, CompareLongword, BitSet, ExclusiveOr, BitClear, ShiftRight}
-use Rattle.opcodes.specs.Works.{ShiftLeft, AddF, SubtractF, MultiplyF, CompareF, Convert, Iota, Merge, LoadLongword}
-use Rattle.opcodes.specs.Works.{LoadQuadword, StoreLongword, StoreQuadword, DivideF}
+use Rattle.opcodes.specs.declared.works.Work.{Work}
+use Rattle.opcodes.specs.declared.works.Work.TheVariants.{AddLongword, SubtractLongword, MultiplyLongword, CompareLongword, BitSet, ExclusiveOr, BitClear}
+use Rattle.opcodes.specs.declared.works.Work.TheVariants.{ShiftRight, ShiftLeft, AddF, SubtractF, MultiplyF, CompareF, Convert, Iota, Merge}
+use Rattle.opcodes.specs.declared.works.Work.TheVariants.{LoadLongword, LoadQuadword, StoreLongword, StoreQuadword, DivideF}
+use Rattle.opcodes.specs.Works.{row_of, reads, is_mask_bit, is_counted, is_move}
 
 -- an entry of the table: a work with its opcodes, vector then scalar, or with the one that it has;
 -- for memory, the opcode that takes a stride and then the one that takes offsets
@@ -49,57 +48,41 @@ table =
     ∷ forms DivideF 0xAC 0xAD
     ∷ []
 
--- ---- a work's number is the place of its entry in the table, counted from 1
-abbrev pub work_in : Entry → Work
-work_in (forms w v s) = w
-work_in (vector w v) = w
-work_in (scalar w s) = w
+-- ---- the first entry that has the opcode says what it stands for: a work, and whether it is the scalar form; one that no entry has is reserved
+abbrev pub Opcode : Type 0
+Opcode = Option (Work × Bool)
 
-abbrev pub work_from : List Entry → ℕ → Work
-work_from [] n = NoWork
-work_from (e ∷ rest) zero = work_in e
-work_from (e ∷ rest) (suc n) = work_from rest n
-
--- the work of a number; 0, and a number past the last entry, is none's
-unfoldable pub work_at : ℕ → Work
-work_at zero = NoWork
-work_at (suc n) = work_from table n
-
--- ---- the first entry that has the opcode says what it is; one that no entry has is reserved
-abbrev pub among : ℕ → ℕ → List Entry → Opcode
-among k n [] = Reserved
-among k n (forms w v s ∷ rest) = pick (eqb k v) (Accepted n false) (pick (eqb k s) (Accepted n true) (among k (suc n) rest))
-among k n (vector w v ∷ rest) = pick (eqb k v) (Accepted n false) (among k (suc n) rest)
-among k n (scalar w s ∷ rest) = pick (eqb k s) (Accepted n true) (among k (suc n) rest)
+abbrev pub among : ℕ → List Entry → Opcode
+among k [] = None
+among k (forms w v s ∷ rest) = pick (eqb k v) (Some (w, false)) (pick (eqb k s) (Some (w, true)) (among k rest))
+among k (vector w v ∷ rest) = pick (eqb k v) (Some (w, false)) (among k rest)
+among k (scalar w s ∷ rest) = pick (eqb k s) (Some (w, true)) (among k rest)
 
 unfoldable pub opcode_of : ℕ → Opcode
-opcode_of k = among k 1 table
+opcode_of k = among k table
 
--- ---- the row of a number's work, and what it says of an instruction
-unfoldable pub row_at : ℕ → Row
-row_at n = row_of (work_at n)
-
+-- ---- what the row of a work says of it, and of an instruction
 -- it moves memory
-abbrev pub is_memory : ℕ → Bool
-is_memory n = is_move (row_at n).moves
+abbrev pub is_memory : Work → Bool
+is_memory w = is_move (row_of w).moves
 
 -- it writes mask bits and no register
 abbrev pub writes_mask : Instruction → Bool
-writes_mask ins = is_mask_bit (row_at ins.work).writes
+writes_mask ins = is_mask_bit (row_of ins.work).writes
 
 -- it is one step for all elements
 abbrev pub in_one_step : Instruction → Bool
-in_one_step ins = is_counted (row_at ins.work).writes
+in_one_step ins = is_counted (row_of ins.work).writes
 
 -- it operates on elements whatever MOE says
 abbrev pub ignores_moe : Instruction → Bool
-ignores_moe ins = not (row_at ins.work).obeys_moe
+ignores_moe ins = not (row_of ins.work).obeys_moe
 
 abbrev pub reads_va : Instruction → Bool
-reads_va ins = reads (row_at ins.work).va ins.scalar
+reads_va ins = reads (row_of ins.work).va ins.scalar
 
 abbrev pub reads_vb : Instruction → Bool
-reads_vb ins = reads (row_at ins.work).vb ins.scalar
+reads_vb ins = reads (row_of ins.work).vb ins.scalar
 
 -- the mask bits
 abbrev pub reads_mask : Instruction → Bool

@@ -2,31 +2,12 @@
 -- "Opcodes", "What an element receives", "Memory" and "Queues and orders"; document 02, Q-1, for division. A later operation is one more case of `Work` and
 -- of `row_of`.
 use Rattle.std.specs.Prelude.{Bool, true, false, not, ℕ}
-
-pub data Work : Type 0 where
-  -- no opcode has it; it leaves its element as it was
-  NoWork : Work
-  AddLongword : Work
-  SubtractLongword : Work
-  MultiplyLongword : Work
-  CompareLongword : Work
-  BitSet : Work
-  ExclusiveOr : Work
-  BitClear : Work
-  ShiftRight : Work
-  ShiftLeft : Work
-  AddF : Work
-  SubtractF : Work
-  MultiplyF : Work
-  CompareF : Work
-  Convert : Work
-  Iota : Work
-  Merge : Work
-  LoadLongword : Work
-  LoadQuadword : Work
-  StoreLongword : Work
-  StoreQuadword : Work
-  DivideF : Work
+use Rattle.opcodes.specs.declared.works.Work.{Work}
+use Rattle.opcodes.specs.declared.works.Work.TheVariants.{NoWork, AddLongword, SubtractLongword, MultiplyLongword, CompareLongword, BitSet, ExclusiveOr}
+use Rattle.opcodes.specs.declared.works.Work.TheVariants.{BitClear, ShiftRight, ShiftLeft, AddF, SubtractF, MultiplyF, CompareF, Convert, Iota, Merge}
+use Rattle.opcodes.specs.declared.works.Work.TheVariants.{LoadLongword, LoadQuadword, StoreLongword, StoreQuadword, DivideF}
+use Rattle.opcodes.specs.declared.works.Holds.{Holds}
+use Rattle.opcodes.specs.declared.works.Holds.TheVariants.{Registers, Relation, RelationAlone, Conversion}
 
 -- in which of its opcode's forms a register is read
 pub data When : Type 0 where
@@ -48,13 +29,6 @@ pub data Writes : Type 0 where
   counted_elements : Writes
   bytes : Writes
 
--- what the control word holds beside registers: nothing; a relation in <2:0>, where <3> is ignored or refused; or a conversion in <11:8>
-pub data Holds : Type 0 where
-  registers : Holds
-  relation : Holds
-  relation_alone : Holds
-  conversion : Holds
-
 -- what is moved between Vc and the window: nothing, or elements of so many bytes
 pub data Moves : Type 0 where
   nothing : Moves
@@ -72,7 +46,7 @@ pub record Row : Type 0 where
 
 -- Va's element, or the scalar, and Vb's give an element of Vc
 abbrev pub operate : Row
-operate = record { writes = element; va = in_vector_form; vb = always; obeys_moe = true; holds = registers; moves = nothing }
+operate = record { writes = element; va = in_vector_form; vb = always; obeys_moe = true; holds = Registers; moves = nothing }
 
 -- or a mask bit
 abbrev pub compare_by : Holds → Row
@@ -80,17 +54,17 @@ compare_by h = record { writes = mask_bit; va = in_vector_form; vb = always; obe
 
 -- loads and gathers, stores and scatters: the scalar form takes offsets from Vb
 abbrev pub load_of : ℕ → Row
-load_of n = record { writes = element; va = never; vb = in_scalar_form; obeys_moe = true; holds = registers; moves = loads n }
+load_of n = record { writes = element; va = never; vb = in_scalar_form; obeys_moe = true; holds = Registers; moves = loads n }
 
 abbrev pub store_of : ℕ → Row
-store_of n = record { writes = bytes; va = never; vb = in_scalar_form; obeys_moe = true; holds = registers; moves = stores n }
+store_of n = record { writes = bytes; va = never; vb = in_scalar_form; obeys_moe = true; holds = Registers; moves = stores n }
 
 unfoldable pub row_of : Work → Row
 row_of NoWork = operate
 row_of AddLongword = operate
 row_of SubtractLongword = operate
 row_of MultiplyLongword = operate
-row_of CompareLongword = compare_by relation
+row_of CompareLongword = compare_by Relation
 row_of BitSet = operate
 row_of ExclusiveOr = operate
 row_of BitClear = operate
@@ -99,13 +73,13 @@ row_of ShiftLeft = operate
 row_of AddF = operate
 row_of SubtractF = operate
 row_of MultiplyF = operate
-row_of CompareF = compare_by relation_alone
+row_of CompareF = compare_by RelationAlone
 -- convert reads Vb alone: Va's field is the conversion
-row_of Convert = record { writes = element; va = never; vb = always; obeys_moe = true; holds = conversion; moves = nothing }
+row_of Convert = record { writes = element; va = never; vb = always; obeys_moe = true; holds = Conversion; moves = nothing }
 -- IOTA reads mask bits and no register
-row_of Iota = record { writes = counted_elements; va = never; vb = never; obeys_moe = false; holds = registers; moves = nothing }
+row_of Iota = record { writes = counted_elements; va = never; vb = never; obeys_moe = false; holds = Registers; moves = nothing }
 -- merge ignores MOE: the mask bit chooses between Va and Vb
-row_of Merge = record { writes = element; va = in_vector_form; vb = always; obeys_moe = false; holds = registers; moves = nothing }
+row_of Merge = record { writes = element; va = in_vector_form; vb = always; obeys_moe = false; holds = Registers; moves = nothing }
 row_of LoadLongword = load_of 4
 row_of LoadQuadword = load_of 8
 row_of StoreLongword = store_of 4

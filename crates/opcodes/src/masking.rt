@@ -2,7 +2,7 @@
 ghost use Rattle.std.specs.Prelude.{◌≤◌};
 ghost use Rattle.opcodes.specs.Working.{OperatedSet};
 
-use crate::{Instruction, works};
+use crate::Instruction;
 use numbers::bits;
 
 // Their set.
@@ -11,7 +11,7 @@ pub fn operated(instruction: Instruction, vlr: u64, vmr: u64) -> u64
     ensures { OperatedSet instruction vlr vmr result }
 {
     bits::chosen_below(
-        instruction.moe & !works::ignores_moe(instruction.work),
+        instruction.moe & !instruction.work.ignores_moe(),
         instruction.mtf,
         vmr,
         vlr,

@@ -2,9 +2,9 @@
 ghost use Rattle.std.specs.Prelude.{◌≡◌};
 ghost use Rattle.opcodes.specs.Opcodes.{opcode_of};
 
-use crate::Opcode;
+use crate::works::Work;
 
-// Each opcode's work, by its number (works.rt): 0 is reserved.
+// The number of each opcode's work (`Work::numbered`); 0 is reserved.
 const WORK: [u8; 256] = [
     0, // 00
     0, // 01
@@ -264,13 +264,13 @@ const WORK: [u8; 256] = [
     0, // FF
 ];
 
-// What an opcode stands for. Of an accepted one, the form is the scalar one exactly where the opcode is odd.
-pub fn look_up(opcode: u8) -> Opcode
+// What an opcode stands for: its work, and whether it is the scalar form, which an accepted opcode is exactly when odd; or nothing.
+pub(crate) fn look_up(opcode: u8) -> Option<(Work, bool)>
     ensures { result ≡ opcode_of opcode }
 {
-    let work = WORK[opcode as usize];
-    if work == 0 {
-        return Opcode::Reserved;
+    let number = WORK[opcode as usize];
+    if number == 0 {
+        return None;
     }
-    Opcode::Accepted(work, opcode % 2 == 1)
+    Some((Work::numbered(number), opcode % 2 == 1))
 }

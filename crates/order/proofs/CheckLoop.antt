@@ -9,9 +9,8 @@ use lib.Dec.{eqb}
 use lib.ListN.{length, get_or, drop, drop_of_length-le}
 use lib.Seq.{drop-cons}
 use Rattle.numbers.specs.Choice.{pick}
-use Rattle.order.specs.declared.Verdict.{Verdict}
-use Rattle.order.specs.declared.Verdict.TheVariants.{Permitted, Refused}
-use Rattle.order.specs.Order.{Mem, has, each, ready, ok, check_from, check}
+use Rattle.std.specs.Prelude.{Ok, Err}
+use Rattle.order.specs.Order.{Verdict, Mem, has, each, ready, ok, check_from, check}
 use Rattle.order.proofs.Tests.{has→mem, T_true}
 use Rattle.order.proofs.SameCheck.{each_same}
 
@@ -52,14 +51,14 @@ module _ (before : ℕ → ℕ → Bool) (steps : List ℕ) where
     abbrev next : Verdict
     next = check_from before steps (get_or list i 0 ∷ past list i) (suc i) (drop (suc i) list)
 
-    entry : i < length list → check before steps list ≡ pick (may_by mark (get_or list i 0)) next (Refused i)
+    entry : i < length list → check before steps list ≡ pick (may_by mark (get_or list i 0)) next (Err i)
     unfolding check_from
     entry h =
         inv.same ∙ ap (check_from before steps (past list i) i) (drop-cons list i 0 h)
-        ∙ ap (λ (b : Bool). pick b next (Refused i)) (sym (may-ok (get_or list i 0)))
+        ∙ ap (λ (b : Bool). pick b next (Err i)) (sym (may-ok (get_or list i 0)))
 
-    pub check-stop : i < length list → may_by mark (get_or list i 0) ≡ false → Refused i ≡ check before steps list
-    check-stop h e = sym (entry h ∙ ap (λ (b : Bool). pick b next (Refused i)) e)
+    pub check-stop : i < length list → may_by mark (get_or list i 0) ≡ false → Err i ≡ check before steps list
+    check-stop h e = sym (entry h ∙ ap (λ (b : Bool). pick b next (Err i)) e)
 
     pub check-on : i < length list → may_by mark (get_or list i 0) ≡ true
         → (mark' : ℕ → Bool) → ((y : ℕ) → Mem y steps → mark' y ≡ (eqb y (get_or list i 0) || mark y))
@@ -68,12 +67,12 @@ module _ (before : ℕ → ℕ → Bool) (steps : List ℕ) where
     check-on h e mark' more = subst (CheckInv list mark') (sym (add-one i)) (record {
       inside = h;
       marks = λ y m. more y m ∙ ap (λ (b : Bool). eqb y (get_or list i 0) || b) (inv.marks y m);
-      same = entry h ∙ ap (λ (b : Bool). pick b next (Refused i)) e;
+      same = entry h ∙ ap (λ (b : Bool). pick b next (Err i)) e;
     })
 
     -- the check at the end
-    pub check-end : length list ≤ i → check before steps list ≡ pick (each mark steps) Permitted (Refused i)
+    pub check-end : length list ≤ i → check before steps list ≡ pick (each mark steps) (Ok tt) (Err i)
     unfolding check_from
     check-end h =
         inv.same ∙ ap (check_from before steps (past list i) i) (drop_of_length-le list h)
-        ∙ ap (λ (b : Bool). pick b Permitted (Refused i)) (sym (each_same _ _ steps inv.marks))
+        ∙ ap (λ (b : Bool). pick b (Ok tt) (Err i)) (sym (each_same _ _ steps inv.marks))

@@ -8,7 +8,7 @@ pub mod RunLoop
 pub mod Sets
 pub mod Filling
 pub mod Groups
-pub mod Sweeping
+pub mod Starting
 pub mod Taking
 pub mod CheckLoop
 pub mod Marking

@@ -1,43 +1,36 @@
 -- The pass over an order list with sets of positions: what the sets say, and that the code's tests are the check's. Assumes nothing.
 use mathlib.Core.Path.{◌≡◌, refl, sym, ap, ap₂, ◌∙◌, subst}
-use mathlib.Core.Bool.{Bool, true, false, not, ◌&&◌, ◌||◌}
+use mathlib.Core.Bool.{Bool, true, false, not, ◌&&◌, ◌||◌, and-false, or-true, not-not}
 use mathlib.Core.List.{List}
-use Prim.Native.Nat.{ℕ, zero, suc, ◌+◌, ◌-◌, ◌*◌, ◌%◌, ◌^◌, ◌<◌, ◌≤◌, zero-le}
+use Prim.Native.Nat.{ℕ, zero, suc, ◌+◌, ◌-◌, ◌*◌, ◌^◌, ◌<◌, ◌≤◌, zero-le}
 use native.Mathlib.Omega.{arith}
 use native.Mathlib.Numerals.{add-one}
 use native.Mathlib.Decide.{ℕ_discrete, dec_lt}
 use borrow.Author.Tests.{eq-eqb, ne_eqb, eqb-true, ltb-true, lt-ltb, le-ltb}
 use lib.Dec.{T, eqb, ltb}
 use lib.Bits.{bit_or}
-use lib.ListN.{length, get_or, replicate, get_or-replicate}
+use lib.ListN.{length, get_or, take, replicate, get_or-replicate}
+use Rattle.std.specs.List.{fold}
+use Rattle.std.proofs.lemmas.List.Sums.{fold_more}
 use Rattle.numbers.specs.Choice.{pick}
 use Rattle.numbers.specs.Bits.{bit}
-use lib.Pow.{pow_pos}
-use Rattle.numbers.proofs.BitLaws.{one_shifted}
 use Rattle.numbers.proofs.Tests.{true-not-false}
 use Rattle.numbers.proofs.Sets.{bit-or, bit-none}
-use Rattle.order.specs.declared.Verdict.{Verdict}
-use Rattle.order.specs.declared.Verdict.TheVariants.{Permitted, Refused}
-use Rattle.order.specs.Order.{Mem, has, each}
+use Rattle.std.specs.Prelude.{Ok, Err}
+use Rattle.order.specs.Order.{Verdict, Mem, has, each}
 use Rattle.order.specs.Steps.{position, element}
 use Rattle.order.specs.SetsWorking.{apart, count_by, is_step_by, steps_by, follows_by, verdict_by, gone, has_come, somewhere, due, sentinel, may_come, Struck}
 use Rattle.order.specs.SetsWorking.{StretchTaken, Started}
-use Rattle.order.proofs.Tests.{and_none, or-always, T_true, each→, →each, has→mem, mem→has}
+use Rattle.order.proofs.Tests.{T_true, each→, →each, has→mem, mem→has}
+use Rattle.std.proofs.lemmas.Bool.{and_from}
 use Rattle.order.proofs.Tests.{same_bool, true-T}
 use Rattle.order.proofs.Passing.{passing→, →passing}
 use Rattle.order.proofs.Tests.{both}
-use Rattle.order.proofs.Sets.{not-not, bit-joined, bit_below, apart→, →apart, apart-or}
-use Rattle.order.proofs.Taking.{sentinel-stays, along}
+use Rattle.order.proofs.Sets.{bit-joined, bit_below, apart→, →apart}
+use Rattle.order.proofs.Taking.{along}
 use Rattle.order.proofs.CheckLoop.{CheckInv, may_by, check-start, check-stop, check-on, check-end}
 
--- the set of the positions below n is worked out without wrapping
-pub ones-fit : (n : ℕ) → n ≤ 16 → 1 ≤ 1 * 2 ^ n % 18446744073709551616
-ones-fit n h = rw (one_shifted n 64 (omega arith)) (pow_pos n)
-
 -- ---- tests
-both_true : (a b : Bool) → a ≡ true → b ≡ true → a && b ≡ true
-both_true a b e f = ap₂ (λ (x y : Bool). x && y) e f
-
 implied : (a b : Bool) → (a ≡ true → b ≡ true) → T (not a || b)
 implied true b f = T_true b (f refl)
 implied false b f = tt
@@ -82,39 +75,19 @@ unfolding somewhere
 →somewhere left (suc n) k f =
     ap not (bit-or (somewhere left n) (get_or left n 0) k)
     ∙ neither (bit (somewhere left n) k) (bit (get_or left n 0) k)
-    ∙ both_true _ _ (→somewhere left n k (λ e g. f e (omega arith))) (f n (omega arith))
+    ∙ and_from _ _ (→somewhere left n k (λ e g. f e (omega arith))) (f n (omega arith))
 
--- one element more
-pub somewhere-more : (left : List ℕ) (e any : ℕ) → any ≡ somewhere left e → bit_or any (get_or left e 0) ≡ somewhere left (e + 1)
+-- the code's sets joined
+pub somewhere-joins : (left : List ℕ) (n : ℕ) → n ≤ length left → fold bit_or 0 (take n left) ≡ somewhere left n
 unfolding somewhere
-somewhere-more left e any h = ap (λ (a : ℕ). bit_or a (get_or left e 0)) h ∙ sym (ap (somewhere left) (add-one e))
+somewhere-joins left zero h = refl
+somewhere-joins left (suc n) h =
+    ap (λ (m : ℕ). fold bit_or 0 (take m left)) (sym (add-one n)) ∙ fold_more bit_or 0 left n 0 h
+    ∙ ap (λ (s : ℕ). bit_or s (get_or left n 0)) (somewhere-joins left n (omega arith))
 
--- ---- the code's search for an element that still waits
-pub none-waits : (left : List ℕ) (n : ℕ) → apart (2 ^ n - 1) (somewhere left 0) ≡ true
-unfolding somewhere
-none-waits left n = →apart (2 ^ n - 1) 0 (λ k h. ap not (bit-none k))
-
-pub no-more-waits : (left : List ℕ) (n e : ℕ) → n ≤ 16 → apart (2 ^ n - 1) (somewhere left e) ≡ true
-    → (r : Bool) → r ≡ apart (1 * 2 ^ n % 18446744073709551616 - 1) (get_or left e 0) → r ≡ true
-    → apart (2 ^ n - 1) (somewhere left (e + 1)) ≡ true
-no-more-waits left n e few so r is h =
-    ap (apart (2 ^ n - 1)) (sym (somewhere-more left e (somewhere left e) refl))
-    ∙ apart-or (2 ^ n - 1) (somewhere left e) (get_or left e 0) so
-    (ap (λ (s : ℕ). apart (s - 1) (get_or left e 0)) (sym (one_shifted n 64 (omega arith))) ∙ sym is ∙ h)
-
-pub one-waits : (left : List ℕ) (n i e : ℕ) → n ≤ 16 → e < 64 → (r : Bool) → r ≡ apart (1 * 2 ^ n % 18446744073709551616 - 1) (get_or left e 0) → r ≡ false
-    → Refused i ≡ pick (apart (2 ^ n - 1) (somewhere left 64)) Permitted (Refused i)
-one-waits left n i e few small r is h = go (apart (2 ^ n - 1) (somewhere left 64)) refl
-  where
-    go : (t : Bool) → apart (2 ^ n - 1) (somewhere left 64) ≡ t → Refused i ≡ pick t Permitted (Refused i)
-    go false f = refl
-    go true f =
-        absurd (true-not-false (sym h ∙ is ∙ ap (λ (s : ℕ). apart (s - 1) (get_or left e 0)) (one_shifted n 64 (omega arith))
-        ∙ →apart (2 ^ n - 1) (get_or left e 0) (λ k g. somewhere→ left 64 k (apart→ (2 ^ n - 1) (somewhere left 64) f k g) e small)))
-
-pub all_come : (left : List ℕ) (n i e : ℕ) → e ≡ 64 → apart (2 ^ n - 1) (somewhere left e) ≡ true
-    → Permitted ≡ pick (apart (2 ^ n - 1) (somewhere left 64)) Permitted (Refused i)
-all_come left n i e z h = sym (ap (λ (t : Bool). pick t Permitted (Refused i)) (ap (λ (j : ℕ). apart (2 ^ n - 1) (somewhere left j)) (sym z) ∙ h))
+-- before the start every position is left, the sentinel too
+pub all-left : (e : ℕ) → e < 64 → gone (replicate 64 18446744073709551615) e sentinel ≡ false
+all-left e h = ap (λ (v : ℕ). not (bit v sentinel)) (get_or-replicate 64 e 18446744073709551615 0 h)
 
 module _ (n vlr iotas : ℕ) where
   pub record IsStep (x : ℕ) : Type 0 where
@@ -123,13 +96,11 @@ module _ (n vlr iotas : ℕ) where
 
   -- what the sets say after i entries
   pub record Marked (bound list left : List ℕ) (i : ℕ) : Type 0 where
-    pub long : length left ≡ 64
     pub on : CheckInv (follows_by iotas bound) (steps_by n vlr iotas) list (has_come left) i
     -- the elements from VLR on wait for IOTAs alone
     pub beyond : (k e : ℕ) → k < n → bit iotas k ≡ false → vlr ≤ e → e < 64 → gone left e k ≡ true
     -- every element waits for an IOTA, or none
     pub alike : (k e : ℕ) → k < n → bit iotas k ≡ true → e < 64 → gone left e k ≡ gone left 0 k
-    pub sentinel-left : (e : ℕ) → e < 64 → gone left e sentinel ≡ false
 
 module _ (n vlr iotas : ℕ) (few : n ≤ 16) (short : vlr ≤ 64) where
   count-le : (k : ℕ) → count_by vlr iotas k ≤ 64
@@ -148,7 +119,7 @@ module _ (n vlr iotas : ℕ) (few : n ≤ 16) (short : vlr ≤ 64) where
 
   →step : (x : ℕ) → IsStep n vlr iotas x → is_step_by n vlr iotas x ≡ true
   unfolding is_step_by
-  →step x s = both_true (ltb (position x) n) _ (lt-ltb (position x) n s.at) (lt-ltb (element x) (count_by vlr iotas (position x)) s.of)
+  →step x s = and_from (ltb (position x) n) _ (lt-ltb (position x) n s.at) (lt-ltb (element x) (count_by vlr iotas (position x)) s.of)
 
   mem→step : (x : ℕ) → Mem x (steps_by n vlr iotas) → IsStep n vlr iotas x
   unfolding steps_by
@@ -208,7 +179,7 @@ module _ (n vlr iotas : ℕ) (few : n ≤ 16) (short : vlr ≤ 64) where
         follows-at k e h f g =
             ap₂ (λ (p j : ℕ). bit (get_or bound (position x) 0) p && (bit iotas p || bit iotas (position x) || eqb j (element x))) (position_at k e h)
             (element-at k e h)
-            ∙ both_true (bit (get_or bound (position x) 0) k) _ f g
+            ∙ and_from (bit (get_or bound (position x) 0) k) _ f g
 
         -- every step that x must follow has come: it waits for no position that it is bound to
         frees : T (each awaited (steps_by n vlr iotas)) → (k e : ℕ) → bit needed k ≡ true → e < 64 → (bit iotas (position x) || eqb e (element x)) ≡ true
@@ -333,7 +304,7 @@ module _ (n vlr iotas : ℕ) (few : n ≤ 16) (short : vlr ≤ 64) where
               (due (get_or bound (position x) 0) (get_or left (element x) 0) (position x))) (le-ltb (position x) n (omega arith)))
 
       -- ---- the code's answers
-      pub entry-stops : i < length list → may_come n iotas bound left (get_or list i 0) ≡ false → Refused i ≡ verdict_by n vlr iotas bound list
+      pub entry-stops : i < length list → may_come n iotas bound left (get_or list i 0) ≡ false → Err i ≡ verdict_by n vlr iotas bound list
       unfolding verdict_by
       entry-stops h e = check-stop (follows_by iotas bound) (steps_by n vlr iotas) list (has_come left) i inv.on h (may-same (get_or list i 0) ∙ e)
 
@@ -350,11 +321,11 @@ module _ (n vlr iotas : ℕ) (few : n ≤ 16) (short : vlr ≤ 64) where
           T_true _ (somewhere→ left 64 (position a) (apart→ (2 ^ n - 1) (somewhere left 64) (true-T _ t) (position a)
           (bit_below n (position a) ∙ lt-ltb (position a) n s.at)) (element a) (omega arith))))
 
-      pub list-ends : length list ≤ i → (v : Verdict) → v ≡ pick (apart (2 ^ n - 1) (somewhere left 64)) Permitted (Refused i)
+      pub list-ends : length list ≤ i → (v : Verdict) → v ≡ pick (apart (2 ^ n - 1) (somewhere left 64)) (Ok tt) (Err i)
           → v ≡ verdict_by n vlr iotas bound list
       unfolding verdict_by
       list-ends h v e =
-          e ∙ ap (λ (t : Bool). pick t Permitted (Refused i)) (sym complete)
+          e ∙ ap (λ (t : Bool). pick t (Ok tt) (Err i)) (sym complete)
           ∙ sym (check-end (follows_by iotas bound) (steps_by n vlr iotas) list (has_come left) i inv.on h)
 
       -- ---- an entry that may come
@@ -384,12 +355,12 @@ module _ (n vlr iotas : ℕ) (few : n ≤ 16) (short : vlr ≤ 64) where
               go (yes e) d b z =
                   ap₂ (λ (u v : Bool). (bit iotas (position (get_or list i 0)) || u) && v) (eq-eqb (element y) (element (get_or list i 0)) (ap element e))
                   (eq-eqb (position y) (position (get_or list i 0)) (ap position e))
-                  ∙ ap (λ (u : Bool). u && true) (or-always (bit iotas (position (get_or list i 0))))
+                  ∙ ap (λ (u : Bool). u && true) (or-true (bit iotas (position (get_or list i 0))))
                   ∙ sym (eq-eqb y (get_or list i 0) e)
               go (no e) (no d) b z =
                   ap (λ (v : Bool). (bit iotas (position (get_or list i 0)) || eqb (element y) (element (get_or list i 0))) && v)
                   (ne_eqb (position y) (position (get_or list i 0)) d)
-                  ∙ and_none (bit iotas (position (get_or list i 0)) || eqb (element y) (element (get_or list i 0)))
+                  ∙ and-false (bit iotas (position (get_or list i 0)) || eqb (element y) (element (get_or list i 0)))
                   ∙ sym (ne_eqb y (get_or list i 0) e)
               go (no e) (yes d) true z =
                   let a = first y s (ap (bit iotas) d ∙ z) in let b = first (get_or list i 0) entry-step z in
@@ -401,13 +372,11 @@ module _ (n vlr iotas : ℕ) (few : n ≤ 16) (short : vlr ≤ 64) where
 
           pub entry-taken : Marked n vlr iotas bound list left' (i + 1)
           entry-taken = record {
-            long = comes.long ∙ inv.long;
             on = check-on (follows_by iotas bound) (steps_by n vlr iotas) list (has_come left) i inv.on h (may-same x ∙ may) (has_come left')
                 (λ y m. new-bit (element y) (position y) (omega arith) ∙ ap (λ (b : Bool). b || has_come left y) (alone y (mem→step y m)));
             beyond = λ k e l z a b. new-bit e k b ∙ ap (λ (t : Bool). (bit iotas (position x) || eqb e (element x)) && eqb k (position x) || t)
-                (inv.beyond k e l z a b) ∙ or-always ((bit iotas (position x) || eqb e (element x)) && eqb k (position x));
+                (inv.beyond k e l z a b) ∙ or-true ((bit iotas (position x) || eqb e (element x)) && eqb k (position x));
             alike = λ k e l z g. new-bit e k g ∙ both_ways k e l z g (ℕ_discrete k (position x)) ∙ sym (new-bit 0 k (omega arith));
-            sentinel-left = sentinel-stays (bit iotas (position x)) x left left' (let h = entry-step.at in omega arith) comes inv.sentinel-left;
           }
             where
               both_ways : (k e : ℕ) → k < n → bit iotas k ≡ true → e < 64 → Dec (k ≡ position (get_or list i 0))
@@ -423,7 +392,7 @@ module _ (n vlr iotas : ℕ) (few : n ≤ 16) (short : vlr ≤ 64) where
                   ∙ sym (aside (bit iotas (position (get_or list i 0)) || eqb 0 (element (get_or list i 0))) (gone left 0 k))
                 where
                   aside : (a b : Bool) → (a && eqb k (position (get_or list i 0)) || b) ≡ b
-                  aside a b = ap (λ (v : Bool). a && v || b) (ne_eqb k (position (get_or list i 0)) d) ∙ ap (λ (v : Bool). v || b) (and_none a)
+                  aside a b = ap (λ (v : Bool). a && v || b) (ne_eqb k (position (get_or list i 0)) d) ∙ ap (λ (v : Bool). v || b) (and-false a)
 
     -- ---- entries that come one after the other
     module _ (list left : List ℕ) (i : ℕ) (inv : Marked n vlr iotas bound list left i) where
@@ -458,13 +427,7 @@ module _ (n vlr iotas : ℕ) (few : n ≤ 16) (short : vlr ≤ 64) where
 
       pub pass-starts : Marked n vlr iotas bound list left 0
       pass-starts = record {
-        long = starts.long;
         on = check-start (follows_by iotas bound) (steps_by n vlr iotas) list (has_come left) (λ y m. none_came y (mem→step y m));
         beyond = λ k e h z l g. high-at e k h l g ∙ ap not z;
         alike = λ k e h z g. off e k h z g ∙ sym (off 0 k h z (omega arith));
-        sentinel-left = λ e g. go e g (dec_lt e vlr);
       }
-        where
-          go : (e : ℕ) → e < 64 → Dec (e < vlr) → gone left e sentinel ≡ false
-          go e g (yes l) = low e sentinel (omega arith) l
-          go e g (no l) = high e sentinel (omega arith) g

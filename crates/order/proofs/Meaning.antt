@@ -9,9 +9,8 @@ use native.Mathlib.Nat.{not-suc-le-zero, le_of_suc-le-suc, add-zero, suc-add, ad
 use native.Mathlib.Omega.{arith}
 use lib.Dec.{T, T_not, not_T}
 use lib.ListN.{length, get_or, take}
-use Rattle.order.specs.declared.Verdict.{Verdict}
-use Rattle.order.specs.declared.Verdict.TheVariants.{Permitted, Refused}
-use Rattle.order.specs.Order.{Mem, has, each, ready, ok, check_from, check, GoodAt, Right, Proper, run}
+use Rattle.std.specs.Prelude.{Ok, Err}
+use Rattle.order.specs.Order.{Verdict, Mem, has, each, ready, ok, check_from, check, GoodAt, Right, Proper, run}
 use native.Mathlib.Decide.{dec_lt}
 use lib.Seq.{take-length}
 use Rattle.order.proofs.Law.{Nodup, Ord, same-run}
@@ -45,8 +44,8 @@ module _ (before : ℕ → ℕ → Bool) (steps : List ℕ) where
     after : (a : ℕ) → Mem a steps → T (before a (get_or l k 0)) → Mem a seen ⊎ Mem a (take k l)
 
   abbrev RightFrom : List ℕ → ℕ → List ℕ → Verdict → Type 0
-  RightFrom seen i l Permitted = ((k : ℕ) → k < length l → Good seen l k) × ((a : ℕ) → Mem a steps → Mem a seen ⊎ Mem a l)
-  RightFrom seen i l (Refused p) =
+  RightFrom seen i l (Ok _) = ((k : ℕ) → k < length l → Good seen l k) × ((a : ℕ) → Mem a steps → Mem a seen ⊎ Mem a l)
+  RightFrom seen i l (Err p) =
       (q : ℕ) × (p ≡ i + q) × ((k : ℕ) → k < q → Good seen l k)
       × (((q < length l) × (Good seen l q → ⊥)) ⊎ ((q ≡ length l) × ((a : ℕ) × Mem a steps × (Mem a seen ⊎ Mem a l → ⊥))))
 
@@ -105,8 +104,8 @@ module _ (before : ℕ → ℕ → Bool) (steps : List ℕ) where
 
   cons_right : (seen : List ℕ) (x : ℕ) (l : List ℕ) (i : ℕ) → Good seen (x ∷ l) zero → (v : Verdict)
       → RightFrom (x ∷ seen) (suc i) l v → RightFrom seen i (x ∷ l) v
-  cons_right seen x l i g Permitted w = (goods-up seen x l (length l) g w.0, λ a m. front seen l (w.1 a m))
-  cons_right seen x l i g (Refused p) w = (
+  cons_right seen x l i g (Ok _) w = (goods-up seen x l (length l) g w.0, λ a m. front seen l (w.1 a m))
+  cons_right seen x l i g (Err p) w = (
     suc w.0,
     w.1 ∙ (suc-add i w.0 ∙ sym (add-suc i w.0)),
     goods-up seen x l w.0 g w.2,
@@ -117,14 +116,14 @@ module _ (before : ℕ → ℕ → Bool) (steps : List ℕ) where
   from-right : (l seen : List ℕ) (i : ℕ) → RightFrom seen i l (check_from before steps seen i l)
   unfolding check_from
   from-right [] seen i =
-      by-pick (RightFrom seen i []) (each (λ (a : ℕ). has a seen) steps) Permitted (Refused i)
+      by-pick (RightFrom seen i []) (each (λ (a : ℕ). has a seen) steps) (Ok tt) (Err i)
       (λ t. ((λ k h. absurd (not-suc-le-zero h)), λ a m. inl (has→mem a seen (each→ _ steps t a m))))
       (λ f. (0, sym (add-zero i), (λ k h. absurd (not-suc-le-zero h)), inr (refl, miss (each-fails _ steps f))))
     where
       miss : ((a : ℕ) × Mem a steps × (T (has a seen) → ⊥)) → (a : ℕ) × Mem a steps × (Mem a seen ⊎ ⊥ → ⊥)
       miss w = (w.0, w.1, λ m. w.2 (mem→has w.0 seen (only-left m)))
   from-right (x ∷ l) seen i =
-      by-pick (RightFrom seen i (x ∷ l)) (ok before steps seen x) (check_from before steps (x ∷ seen) (suc i) l) (Refused i)
+      by-pick (RightFrom seen i (x ∷ l)) (ok before steps seen x) (check_from before steps (x ∷ seen) (suc i) l) (Err i)
       (λ t. cons_right seen x l i (ok→good seen x l t) (check_from before steps (x ∷ seen) (suc i) l) (from-right l (x ∷ seen) (suc i)))
       (λ f. (0, sym (add-zero i), (λ k h. absurd (not-suc-le-zero h)), inl (suc-le-suc zero-le, λ g. f (good→ok seen x l g))))
 
@@ -136,9 +135,9 @@ module _ (before : ℕ → ℕ → Bool) (steps : List ℕ) where
   un-at l k g = record { a-step = g.a-step; fresh = λ m. ⊎_elim (λ e. e) g.fresh m; after = λ a m b. inr (g.after a m b) }
 
   at_right : (l : List ℕ) (v : Verdict) → RightFrom [] 0 l v → Right before steps l v
-  at_right l Permitted w = (λ k h. at l k (w.0 k h), λ a m. ⊎_elim (λ e. absurd e) (λ h. h) (w.1 a m))
-  at_right l (Refused p) w =
-      subst (λ (n : ℕ). Right before steps l (Refused n)) (sym (w.1 ∙ zero-add w.0))
+  at_right l (Ok _) w = (λ k h. at l k (w.0 k h), λ a m. ⊎_elim (λ e. absurd e) (λ h. h) (w.1 a m))
+  at_right l (Err p) w =
+      subst (λ (n : ℕ). Right before steps l (Err n)) (sym (w.1 ∙ zero-add w.0))
       (λ k h. at l k (w.2 k h), ⊎_elim (λ b. inl (b.0, λ g. b.1 (un-at l w.0 g))) (λ b. inr (b.0, (b.1.0, b.1.1, λ m. b.1.2 (inr m)))) w.3)
 
   -- THE CHECK'S ANSWER IS RIGHT
@@ -147,16 +146,16 @@ module _ (before : ℕ → ℕ → Bool) (steps : List ℕ) where
   check-right l = at_right l (check_from before steps [] 0 l) (from-right l [] 0)
 
   -- no two answers are right
-  clash : (l : List ℕ) (p : ℕ) → Right before steps l Permitted → Right before steps l (Refused p) → ⊥
+  clash : (l : List ℕ) (p : ℕ) → Right before steps l (Ok tt) → Right before steps l (Err p) → ⊥
   clash l p v w = ⊎_elim (λ b. b.1 (v.0 p b.0)) (λ b. b.1.2 (v.1 b.1.0 b.1.1)) w.1
 
-  within : (l : List ℕ) (p : ℕ) → Right before steps l (Refused p) → p < suc (length l)
+  within : (l : List ℕ) (p : ℕ) → Right before steps l (Err p) → p < suc (length l)
   within l p w = ⊎_elim (λ b. omega arith) (λ b. omega arith) w.1
 
-  not-later : (l : List ℕ) (p q : ℕ) → Right before steps l (Refused p) → Right before steps l (Refused q) → p < q → ⊥
+  not-later : (l : List ℕ) (p q : ℕ) → Right before steps l (Err p) → Right before steps l (Err q) → p < q → ⊥
   not-later l p q v w h = ⊎_elim (λ b. b.1 (w.0 p h)) (λ b. omega (arith, within l q w)) v.1
 
-  same_place : (l : List ℕ) (p q : ℕ) → Right before steps l (Refused p) → Right before steps l (Refused q) → p ≡ q
+  same_place : (l : List ℕ) (p q : ℕ) → Right before steps l (Err p) → Right before steps l (Err q) → p ≡ q
   same_place l p q v w = go (dec_lt p q) (dec_lt q p)
     where
       go : Dec (p < q) → Dec (q < p) → p ≡ q
@@ -165,17 +164,17 @@ module _ (before : ℕ → ℕ → Bool) (steps : List ℕ) where
       go (no n) (no m) = omega arith
 
   pub unique : (l : List ℕ) (v w : Verdict) → Right before steps l v → Right before steps l w → v ≡ w
-  unique l Permitted Permitted v w = refl
-  unique l Permitted (Refused q) v w = absurd (clash l q v w)
-  unique l (Refused p) Permitted v w = absurd (clash l p w v)
-  unique l (Refused p) (Refused q) v w = ap Refused (same_place l p q v w)
+  unique l (Ok _) (Ok _) v w = refl
+  unique l (Ok _) (Err q) v w = absurd (clash l q v w)
+  unique l (Err p) (Ok _) v w = absurd (clash l p w v)
+  unique l (Err p) (Err q) v w = ap Err (same_place l p q v w)
 
   -- THE CHECK GIVES v EXACTLY WHERE v IS RIGHT
   pub check-iff : (l : List ℕ) (v : Verdict) → (check before steps l ≡ v) ↔ Right before steps l v
   check-iff l v = (λ e. subst (Right before steps l) e (check-right l), λ w. unique l (check before steps l) v (check-right l) w)
 
-  -- the right answer is Permitted where the list is proper, and nowhere else
-  right→proper : (l : List ℕ) → Right before steps l Permitted → Proper before steps l
+  -- the right answer is Ok where the list is proper, and nowhere else
+  right→proper : (l : List ℕ) → Right before steps l (Ok tt) → Proper before steps l
   right→proper l w = record {
     only = λ k h. (w.0 k h).a-step;
     once = once;
@@ -198,7 +197,7 @@ module _ (before : ℕ → ℕ → Bool) (steps : List ℕ) where
           go (no n) (yes h) = absurd (not-twice k j hk hj (sym e) h)
           go (no n) (no m) = omega arith
 
-  proper→right : (l : List ℕ) → Proper before steps l → Right before steps l Permitted
+  proper→right : (l : List ℕ) → Proper before steps l → Right before steps l (Ok tt)
   proper→right l w = (good, λ a m. rw take-length at (found a m))
     where
       found : (a : ℕ) → Mem a steps → Mem a (take (length l) l)
@@ -220,8 +219,8 @@ module _ (before : ℕ → ℕ → Bool) (steps : List ℕ) where
       }
 
   -- A LIST IS PERMITTED EXACTLY WHERE IT IS PROPER
-  pub permitted-iff : (l : List ℕ) → (check before steps l ≡ Permitted) ↔ Proper before steps l
-  permitted-iff l = (λ e. right→proper l ((check-iff l Permitted).0 e), λ w. (check-iff l Permitted).1 (proper→right l w))
+  pub permitted-iff : (l : List ℕ) → (check before steps l ≡ Ok tt) ↔ Proper before steps l
+  permitted-iff l = (λ e. right→proper l ((check-iff l (Ok tt)).0 e), λ w. (check-iff l (Ok tt)).1 (proper→right l w))
 
   -- the steps in their own order are permitted, where their numbers go up and a step that must come before another has the lower number
   asc-at : (l : List ℕ) → Asc l → (j k : ℕ) → j < k → k < length l → get_or l j 0 < get_or l k 0
@@ -230,7 +229,7 @@ module _ (before : ℕ → ℕ → Bool) (steps : List ℕ) where
   asc-at (x ∷ l) u zero (suc k) h i = u.0 (get_or l k 0) (rw take-length at (at_place l k (length l) (le_of_suc-le-suc i) (le_of_suc-le-suc i)))
   asc-at (x ∷ l) u (suc j) (suc k) h i = asc-at l u.1 j k (le_of_suc-le-suc h) (le_of_suc-le-suc i)
 
-  pub own-order : Asc steps → ((a b : ℕ) → T (before a b) → a < b) → check before steps steps ≡ Permitted
+  pub own-order : Asc steps → ((a b : ℕ) → T (before a b) → a < b) → check before steps steps ≡ Ok tt
   own-order u lt = (permitted-iff steps).1 (record {
     only = λ k h. rw take-length at (at_place steps k (length steps) h h);
     once = λ j k hj hk e. go j k hj hk e (dec_lt j k) (dec_lt k j);
@@ -286,14 +285,14 @@ module _ (before : ℕ → ℕ → Bool) (steps : List ℕ) where
       (comm : (a b : ℕ) → Mem a steps → Mem b steps → (T (before a b) → ⊥) → (T (before b a) → ⊥) → (s : S) → Inv s → act a (act b s) ≡ act b (act a s))
     where
       -- THE LAW: a permitted list runs to the state that the steps run to in their own order
-      pub law : (l : List ℕ) → check before steps l ≡ Permitted → check before steps steps ≡ Permitted
+      pub law : (l : List ℕ) → check before steps l ≡ Ok tt → check before steps steps ≡ Ok tt
           → (s : S) → Inv s → run act l s ≡ run act steps s
       law l pl ps =
           same-run act before (λ (a : ℕ). Mem a steps) Inv keeps comm l steps (λ a m. m)
-          (ord l [] gl) (nodup l [] gl) (ord steps [] gs) (nodup steps [] gs) (only-in l [] gl) ((check-iff l Permitted).0 pl).1
+          (ord l [] gl) (nodup l [] gl) (ord steps [] gs) (nodup steps [] gs) (only-in l [] gl) ((check-iff l (Ok tt)).0 pl).1
         where
           gl : Goods [] l
-          gl k h = un-at l k (((check-iff l Permitted).0 pl).0 k h)
+          gl k h = un-at l k (((check-iff l (Ok tt)).0 pl).0 k h)
 
           gs : Goods [] steps
-          gs k h = un-at steps k (((check-iff steps Permitted).0 ps).0 k h)
+          gs k h = un-at steps k (((check-iff steps (Ok tt)).0 ps).0 k h)

@@ -6,9 +6,8 @@ use mathlib.Core.Bool.{Bool, true, false, not, ◌&&◌, ◌||◌}
 use mathlib.Core.List.{List, [], ◌∷◌}
 use Prim.Native.Nat.{ℕ, suc}
 use Rattle.numbers.specs.Choice.{pick}
-use Rattle.order.specs.declared.Verdict.{Verdict}
-use Rattle.order.specs.declared.Verdict.TheVariants.{Refused}
-use Rattle.order.specs.Order.{Mem, has, each, ready, ok, check_from, check}
+use Rattle.std.specs.Prelude.{Err}
+use Rattle.order.specs.Order.{Verdict, Mem, has, each, ready, ok, check_from, check}
 use Rattle.order.proofs.Tests.{T_true, has→mem}
 
 pub each_same : (p p' : ℕ → Bool) (l : List ℕ) → ((a : ℕ) → Mem a l → p a ≡ p' a) → each p l ≡ each p' l
@@ -30,7 +29,7 @@ module _ (steps : List ℕ) (before before' : ℕ → ℕ → Bool) (same : (a x
   from-same : (l seen : List ℕ) (i : ℕ) → check_from before steps seen i l ≡ check_from before' steps seen i l
   unfolding check_from
   from-same [] seen i = refl
-  from-same (x ∷ l) seen i = ap₂ (λ (t : Bool) (v : Verdict). pick t v (Refused i)) (ok_same seen x) (from-same l (x ∷ seen) (suc i))
+  from-same (x ∷ l) seen i = ap₂ (λ (t : Bool) (v : Verdict). pick t v (Err i)) (ok_same seen x) (from-same l (x ∷ seen) (suc i))
 
   pub check-same : (l : List ℕ) → check before steps l ≡ check before' steps l
   unfolding check

@@ -1,18 +1,17 @@
 -- Sets of positions: a number whose bit k says that k is in it. Assumes nothing.
 use mathlib.Core.Path.{◌≡◌, refl, sym, ap, ap₂, ◌∙◌}
-use mathlib.Core.Bool.{Bool, beq, true, false, not, ◌&&◌, ◌||◌}
+use mathlib.Core.Bool.{Bool, beq, true, false, not, ◌&&◌, ◌||◌, not-not}
 use Prim.Native.Nat.{ℕ, suc, ◌+◌, ◌-◌, ◌*◌, ◌/◌, ◌%◌, ◌^◌, ◌<◌}
 use native.Mathlib.Nat.{mul-mod_left, pow-suc, div-eq_of_lt, zero-div}
 use native.Mathlib.Omega.{arith}
 use native.Mathlib.Decide.{ℕ_discrete, dec_lt}
 use borrow.Author.Tests.{eq-eqb, ne_eqb, eqb-true, lt-ltb, le-ltb}
 use lib.Dec.{eqb, ltb}
-use lib.Bits.{bit_or, bit_and, bit_xor}
+use lib.Bits.{bit_and, bit_xor}
 use lib.Pow.{shl-shr, pow-add, pow-lt, pow_pos}
 use Rattle.numbers.specs.Choice.{pick}
 use Rattle.numbers.specs.Bits.{bit}
 use Rattle.numbers.proofs.BitLaws.{digit-complement, bit-above}
-use Rattle.numbers.proofs.Tests.{true-not-false}
 use Rattle.numbers.proofs.Sets.{same_bits, bit-or, bit-and, bit-xor, bit-none}
 use Rattle.order.specs.SetsWorking.{joined, parted, apart}
 
@@ -77,10 +76,6 @@ bit_below n k = go (dec_lt k n)
         ∙ sym (lt-ltb k n h)
     go (no h) = bit-above (2 ^ n - 1) n k (let s = small in omega arith) (omega arith) ∙ sym (le-ltb k n (omega arith))
 
-pub not-not : (b : Bool) → not (not b) ≡ b
-not-not true = refl
-not-not false = refl
-
 -- a position leaves a set
 pub bit-parted : (s k j : ℕ) → not (bit (parted s k) j) ≡ (eqb j k || not (bit s j))
 bit-parted s k j =
@@ -125,29 +120,6 @@ pub →apart : (a b : ℕ) → ((k : ℕ) → bit a k ≡ true → not (bit b k)
     go : (k : ℕ) (s t : Bool) → bit a k ≡ s → bit b k ≡ t → (s && t) ≡ false
     go k false t e g = refl
     go k true t e g = sym (not-not t) ∙ ap not (ap not (sym g) ∙ f k e)
-
--- a set without position k
-pub apart-one : (s k : ℕ) → apart s (2 ^ k) ≡ not (bit s k)
-apart-one s k = go (apart s (2 ^ k)) (bit s k) refl refl
-  where
-    is-in : bit s k ≡ false → (j : ℕ) → bit s j ≡ true → Dec (j ≡ k) → not (bit (2 ^ k) j) ≡ true
-    is-in e j h (yes z) = absurd (true-not-false (sym e ∙ sym (ap (bit s) z) ∙ h))
-    is-in e j h (no z) = ap not (bit-one k j ∙ ne_eqb j k z)
-
-    go : (a b : Bool) → apart s (2 ^ k) ≡ a → bit s k ≡ b → a ≡ not b
-    go true true e f = sym (apart→ s (2 ^ k) e k f) ∙ ap not (bit-one k k ∙ eq-eqb k k refl)
-    go true false e f = refl
-    go false true e f = refl
-    go false false e f = sym e ∙ →apart s (2 ^ k) (λ j h. is-in f j h (ℕ_discrete j k))
-
--- a union has no common position with a set where neither part has
-pub apart-or : (a s t : ℕ) → apart a s ≡ true → apart a t ≡ true → apart a (bit_or s t) ≡ true
-apart-or a s t e f =
-    →apart a (bit_or s t) (λ k h. ap not (bit-or s t k) ∙ neither (bit s k) (bit t k) (apart→ a s e k h) (apart→ a t f k h))
-  where
-    neither : (u v : Bool) → not u ≡ true → not v ≡ true → not (u || v) ≡ true
-    neither true v g h = g
-    neither false v g h = h
 
 -- ---- a set that a loop builds: after k turns it has the positions below k that pass the test
 pub Built : (ℕ → Bool) → ℕ → ℕ → Type 0

@@ -1,6 +1,6 @@
 -- An entry of an order list is taken or refused, and entries are taken one after the other, as the code does it. Assumes nothing.
 use mathlib.Core.Path.{◌≡◌, refl, sym, ap, ap₂, subst, ◌∙◌}
-use mathlib.Core.Bool.{Bool, beq, true, false, not, ◌&&◌, ◌||◌}
+use mathlib.Core.Bool.{Bool, beq, true, false, not, ◌&&◌, ◌||◌, and-false, not-not}
 use mathlib.Core.List.{List}
 use Prim.Native.Nat.{ℕ, zero, suc, ◌+◌, ◌-◌, ◌*◌, ◌%◌, ◌^◌, ◌<◌, ◌≤◌}
 use native.Mathlib.Omega.{arith}
@@ -18,9 +18,8 @@ use Rattle.numbers.proofs.Tests.{true-not-false}
 use Rattle.order.specs.Steps.{position, element}
 use Rattle.order.specs.SetsWorking.{joined, parted, apart, gone, somewhere, due, sentinel, group_of, may_come, Struck, EntryTaken, EntryTried}
 use Rattle.order.specs.SetsWorking.{EntriesTaken, StretchTaken}
-use Rattle.order.proofs.Tests.{and_none}
 use Rattle.order.proofs.Tests.{both}
-use Rattle.order.proofs.Sets.{not-not, bit-one, bit-parted, bit-flipped, flipped-out, apart→}
+use Rattle.order.proofs.Sets.{bit-one, bit-parted, bit-flipped, flipped-out, apart→}
 use Rattle.order.proofs.Groups.{alone→due}
 
 -- a refused entry does not come
@@ -43,12 +42,11 @@ step-struck left x flipped long is t = record { long = simp length-set; sets = �
         ∙ sym (ap (λ (b : Bool). b && eqb k (position x) || gone left e k) (ne_eqb e (element x) z))
 
 -- IOTA's, for every element
-pub iota-struck : (left left' : List ℕ) (x : ℕ) → length left ≡ 64
-    → (length left' ≡ 64) × ((e : ℕ) → e < 64 → get_or left' e 0 ≡ parted (get_or left e 0) (position x))
-    → Struck true x left left'
+pub iota-struck : (left left' : List ℕ) (x : ℕ) → length left' ≡ length left
+    → ((e : ℕ) → e < 64 → get_or left' e 0 ≡ parted (get_or left e 0) (position x)) → Struck true x left left'
 iota-struck left left' x long r = record {
-  long = r.0 ∙ sym long;
-  sets = λ e k g. ap (λ (v : ℕ). not (bit v k)) (r.1 e g) ∙ bit-parted (get_or left e 0) (position x) k;
+  long = long;
+  sets = λ e k g. ap (λ (v : ℕ). not (bit v k)) (r e g) ∙ bit-parted (get_or left e 0) (position x) k;
 }
 
 -- ---- the test
@@ -73,9 +71,6 @@ module _ (n iotas : ℕ) (bound left : List ℕ) (x : ℕ) where
       )
 
 -- IOTA's test
-pub iota-not : (e : ℕ) (t : Bool) → (e ≡ 0 → ⊥) → (eqb e 0 && t) ≡ false
-iota-not e t h = ap (λ (b : Bool). b && t) (ne_eqb e 0 h)
-
 pub iota-tested : (e bound any p : ℕ) (left : List ℕ) (r : Bool) → e ≡ 0 → any ≡ somewhere left 64 → r ≡ due bound any p
     → r ≡ (eqb e 0 && due bound (somewhere left 64) p)
 iota-tested e bound any p left r z f h =
@@ -92,7 +87,12 @@ pub sentinel-stays : (iota : Bool) (x : ℕ) (left left' : List ℕ) → positio
 sentinel-stays iota x left left' h c s e g =
     c.sets e sentinel g
     ∙ ap₂ (λ (t u : Bool). (iota || eqb e (element x)) && t || u) (ne_eqb sentinel (position x) (λ z. omega arith)) (s e g)
-    ∙ ap (λ (t : Bool). t || false) (and_none (iota || eqb e (element x)))
+    ∙ ap (λ (t : Bool). t || false) (and-false (iota || eqb e (element x)))
+
+pub still-stays : (n iotas : ℕ) (bound : List ℕ) (x : ℕ) (left left' : List ℕ) → n ≤ 16 → EntryTaken n iotas bound x left left'
+    → ((e : ℕ) → e < 64 → gone left e sentinel ≡ false) → (e : ℕ) → e < 64 → gone left' e sentinel ≡ false
+still-stays n iotas bound x left left' few c =
+    sentinel-stays (bit iotas (position x)) x left left' (let p = inside_of n iotas bound left x c.may in omega arith) c.struck
 
 -- ---- an entry tested by itself, of an instruction that is no IOTA
 module _ (n iotas : ℕ) (bound left : List ℕ) (x : ℕ) (few : n ≤ 16) (long : length left ≡ 64) (inside : position x < n)
@@ -150,19 +150,12 @@ module _ (n iotas : ℕ) (bound left : List ℕ) (x here : ℕ) (few : n ≤ 16)
     free-due false z e = (refl, alone→due (get_or bound (position x) 0) (get_or left (element x) 0) (position x) earlier (sym (as-free false z) ∙ e))
 
     pub seen-taken : (t : Bool) → t ≡ apart group flipped → t ≡ true → EntryTried true n iotas bound x left (set left (element x) flipped)
-        × (get_or (set left (element x) flipped) (element x) 0 ≡ flipped)
     seen-taken t f e =
         let q = free-due (bit iotas (position x)) refl (sym f ∙ e) in
         let left_here = (both (bit (get_or left (element x) 0) (position x)) (apart (get_or bound (position x) 0) (get_or left (element x) 0)) q.1).0 in
         let r = may-by n iotas bound left x (set left (element x) flipped) inside (bit iotas (position x)) false true refl q.0
-        (sym q.1, λ g. step-struck left x flipped long left_here as-power) in (
-          record { taken = λ g. record { may = sym r.0; struck = r.1 refl }; same = λ g. absurd (subst T g tt) },
-          get_or-set_same left (element x) flipped 0 (omega arith),
-        )
-
--- one that is not leaves all as it was
-pub unseen : (n iotas : ℕ) (bound : List ℕ) (x : ℕ) (left : List ℕ) → EntryTried false n iotas bound x left left
-unseen n iotas bound x left = record { taken = λ f. absurd (subst T (sym f) tt); same = λ f. refl }
+        (sym q.1, λ g. step-struck left x flipped long left_here as-power) in
+        record { taken = λ g. record { may = sym r.0; struck = r.1 refl }; same = λ g. absurd (subst T g tt) }
 
 -- ---- entries that come one after the other
 module _ (n iotas : ℕ) (bound list left : List ℕ) (from : ℕ) where
@@ -206,23 +199,8 @@ along n iotas bound list P one left i p left' j c =
         more : i + k + 1 ≡ i + suc k
         more = omega arith
 
--- a loop that goes on so: how far it is, and what it keeps
-pub record Going (n iotas : ℕ) (bound list left : List ℕ) (from : ℕ) (left' : List ℕ) (i : ℕ) : Type 0 where
-  pub so_far : StretchTaken n iotas bound list left from left' i
-  pub long : length left' ≡ 64
-  pub stays : (e : ℕ) → e < 64 → gone left' e sentinel ≡ false
-
-pub goes_on : (n iotas : ℕ) (bound list left : List ℕ) (from : ℕ) (mid left' : List ℕ) (i : ℕ) → n ≤ 16 → Going n iotas bound list left from mid i
-    → i < length list
-    → EntryTaken n iotas bound (get_or list i 0) mid left' → Going n iotas bound list left from left' (i + 1)
-goes_on n iotas bound list left from mid left' i few g h c = record {
-  so_far = more-taken n iotas bound list left from mid left' i g.so_far h c;
-  long = c.struck.long ∙ g.long;
-  stays = sentinel-stays (bit iotas (position (get_or list i 0))) (get_or list i 0) mid left'
-      (let p = inside_of n iotas bound mid (get_or list i 0) c.may in omega arith) c.struck g.stays;
-}
-
-pub goes_through : (n iotas : ℕ) (bound list left : List ℕ) (from : ℕ) (mid : List ℕ) (i : ℕ) → n ≤ 16 → Going n iotas bound list left from mid i
-    → (left' : List ℕ) (j : ℕ) → StretchTaken n iotas bound list mid i left' j → Going n iotas bound list left from left' j
-goes_through n iotas bound list left from mid i few =
-    along n iotas bound list (Going n iotas bound list left from) (λ l l' k g h c. goes_on n iotas bound list left from l l' k few g h c) mid i
+-- one stretch after another
+pub taken-on : (n iotas : ℕ) (bound list left : List ℕ) (from : ℕ) (mid : List ℕ) (i : ℕ) → StretchTaken n iotas bound list left from mid i
+    → (left' : List ℕ) (j : ℕ) → StretchTaken n iotas bound list mid i left' j → StretchTaken n iotas bound list left from left' j
+taken-on n iotas bound list left from mid i =
+    along n iotas bound list (StretchTaken n iotas bound list left from) (λ l l' k g h c. more-taken n iotas bound list left from l l' k g h c) mid i

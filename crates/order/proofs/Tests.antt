@@ -38,15 +38,6 @@ pub T-dec : (b : Bool) → T b ⊎ (T b → ⊥)
 T-dec true = inl tt
 T-dec false = inr (λ t. t)
 
--- tests with one that is known
-pub and_none : (a : Bool) → (a && false) ≡ false
-and_none true = refl
-and_none false = refl
-
-pub or-always : (a : Bool) → (a || true) ≡ true
-or-always true = refl
-or-always false = refl
-
 -- a property of both branches, each where its test says so
 pub by-pick : {A : Type 0} (P : A → Type 0) (b : Bool) (u v : A) → (T b → P u) → ((T b → ⊥) → P v) → P (pick b u v)
 by-pick P true u v f g = f tt

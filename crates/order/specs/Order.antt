@@ -1,10 +1,12 @@
 -- An order list of steps: the check that goes through it once from left to right, what its answers mean, and the run of a list.
 -- Document 01, "Queues and orders": number 9 names the first entry that is no step, or a repeat, or comes while a step it must follow has not yet come;
 -- or, if there is no such entry, the list's length if steps are missing.
-use Rattle.std.specs.Prelude.{◌≡◌, ◌⊎◌, Bool, true, false, not, ◌&&◌, ◌||◌, List, [], ◌∷◌, ℕ, suc, ◌<◌, T, eqb, length, get_or, take}
+use Rattle.std.specs.Prelude.{◌≡◌, ◌⊎◌, Bool, true, false, not, ◌&&◌, ◌||◌, List, [], ◌∷◌, ℕ, suc, ◌<◌, T, eqb, length, get_or, take, Result, Ok, Err, ⊤}
 use Rattle.numbers.specs.Choice.{pick}
-use Rattle.order.specs.declared.Verdict.{Verdict}
-use Rattle.order.specs.declared.Verdict.TheVariants.{Permitted, Refused}
+
+-- what the check says of a list: it is permitted, or refused with a place in it
+abbrev pub Verdict : Type 0
+Verdict = Result ⊤ ℕ
 
 -- x is one of l
 abbrev pub Mem : ℕ → List ℕ → Type 0
@@ -37,8 +39,8 @@ module _ (before : ℕ → ℕ → Bool) (steps : List ℕ) where
 
   -- the check from position i on, where `seen` has come and the list is left
   unfoldable pub check_from : List ℕ → ℕ → List ℕ → Verdict
-  check_from seen i [] = pick (each (λ (a : ℕ). has a seen) steps) Permitted (Refused i)
-  check_from seen i (x ∷ l) = pick (ok seen x) (check_from (x ∷ seen) (suc i) l) (Refused i)
+  check_from seen i [] = pick (each (λ (a : ℕ). has a seen) steps) (Ok tt) (Err i)
+  check_from seen i (x ∷ l) = pick (ok seen x) (check_from (x ∷ seen) (suc i) l) (Err i)
 
   unfoldable pub check : List ℕ → Verdict
   check l = check_from [] 0 l
@@ -50,11 +52,11 @@ module _ (before : ℕ → ℕ → Bool) (steps : List ℕ) where
     pub fresh : Mem (get_or l k 0) (take k l) → ⊥
     pub after : (a : ℕ) → Mem a steps → T (before a (get_or l k 0)) → Mem a (take k l)
 
-  -- the answer is right: Permitted where every entry is good and no step is missing; Refused p where every entry before p is good, and p is the
-  -- place of an entry that is not, or the list's length where a step is missing
+  -- the answer is right: Ok, permitted, where every entry is good and no step is missing; Err p, refused at p, where every entry before p is good, and
+  -- p is the place of an entry that is not, or the list's length where a step is missing
   abbrev pub Right : List ℕ → Verdict → Type 0
-  Right l Permitted = ((k : ℕ) → k < length l → GoodAt l k) × ((a : ℕ) → Mem a steps → Mem a l)
-  Right l (Refused p) =
+  Right l (Ok _) = ((k : ℕ) → k < length l → GoodAt l k) × ((a : ℕ) → Mem a steps → Mem a l)
+  Right l (Err p) =
       ((k : ℕ) → k < p → GoodAt l k)
       × (((p < length l) × (GoodAt l p → ⊥)) ⊎ ((p ≡ length l) × ((a : ℕ) × Mem a steps × (Mem a l → ⊥))))
 

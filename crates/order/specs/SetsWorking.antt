@@ -4,8 +4,7 @@ use Rattle.std.specs.Prelude.{◌≡◌, Bool, true, false, not, ◌&&◌, ◌||
 use Rattle.std.specs.Int.Bits.{bit_and, bit_or, bit_xor}
 use Rattle.numbers.specs.Choice.{pick}
 use Rattle.numbers.specs.Bits.{bit}
-use Rattle.order.specs.declared.Verdict.{Verdict}
-use Rattle.order.specs.Order.{check}
+use Rattle.order.specs.Order.{Verdict, check}
 use Rattle.order.specs.Steps.{position, element, passing}
 
 -- position k joins a set

@@ -1,5 +1,5 @@
 // Readings for panel fields.
-#![tactic(auto)]
+#![tactic(auto, unfolding(crate::specs::Panel::field_answer))]
 
 ghost use Rattle.std.specs.Prelude.{◌≡◌, ◌<◌};
 ghost use Rattle.numbers.specs.Halves.{low};
@@ -7,28 +7,14 @@ ghost use Rattle.state.specs.State.{state as state_of};
 ghost use Rattle.panel.specs.Panel.{is_field, ShownAs, Answered};
 
 use floating::Reading;
-use state::answer::Answer;
+use state::answer::Refusal;
 use state::{Control, Element, Register};
-
-// What a panel field gets.
-#[derive(Clone, Copy)]
-pub enum Panel {
-    Shown(Reading),
-    Refused(Answer),
-}
 
 // There is such a field.
 fn is_field(register: Register, element: Element, kind: u32) -> bool
     ensures { result ≡ is_field register.0 element.0 kind }
 {
     (register.0 < 16) & ((element.0 < 64) & (kind < 2))
-}
-
-// Bits <31:0> of an element.
-fn word_of(contents: u64) -> u32
-    ensures { result ≡ low contents }
-{
-    (contents % 4294967296) as u32
 }
 
 // A word as F_floating or as a longword.
@@ -42,22 +28,22 @@ fn shown(kind: u32, word: u32) -> Reading
     floating::read_longword(word)
 }
 
-// The reading of an element.
+// The reading of an element, or why there is none.
 pub fn reading(
     elements: &[u64; 1024],
     control: Control,
     register: Register,
     element: Element,
     kind: u32,
-) -> Panel
+) -> Result<Reading, Refusal>
     ensures { Answered (state_of elements.now control) register.0 element.0 kind result }
 {
     if !state::in_range(control) {
-        return Panel::Refused(Answer::OutOfRange);
+        return Err(Refusal::OutOfRange);
     }
     if !is_field(register, element, kind) {
-        return Panel::Refused(Answer::NoSuchField);
+        return Err(Refusal::NoSuchField);
     }
     let at = state::place(register, element);
-    Panel::Shown(shown(kind, word_of(elements[at])))
+    Ok(shown(kind, numbers::halves::longword(elements[at])))
 }

@@ -1,4 +1,5 @@
 -- The acceptance of a queue, as the code walks through it. Assumes nothing.
+use Rattle.std.specs.Prelude.{Ok, Err}
 use mathlib.Core.Path.{◌≡◌, refl, sym, ap, ◌∙◌}
 use mathlib.Core.Bool.{Bool, true, false, not, ◌&&◌}
 use Prim.Native.Nat.{ℕ, zero, suc, ◌+◌, ◌<◌, ◌≤◌}
@@ -10,13 +11,11 @@ use lib.Dec.{leb, eqb}
 use lib.ListN.{length}
 use Rattle.numbers.specs.Choice.{pick}
 use Rattle.state.specs.declared.Control.{Control}
-use Rattle.state.specs.declared.answer.Answer.{Answer}
-use Rattle.state.specs.declared.answer.Answer.TheVariants.{Done, Disabled, QueueRefused, OutOfRange}
-use Rattle.state.specs.Answer.{is_done}
+use Rattle.state.specs.declared.answer.Refusal.{Refusal}
+use Rattle.state.specs.declared.answer.Refusal.TheVariants.{Disabled, QueueRefused, OutOfRange}
+use Rattle.state.specs.Answer.{Answer, is_done}
 use Rattle.state.specs.State.{in_range, enabled}
 use Rattle.opcodes.specs.declared.Instruction.{Instruction}
-use Rattle.opcodes.specs.declared.Decoded.TheVariants.{Accepted, Refused}
-use Rattle.opcodes.proofs.Passed.{refusal}
 use Rattle.order.proofs.Tests.{both}
 use Rattle.touch.specs.Parts.{Queue, size, decoded_in}
 use Rattle.queue.specs.Queue.{well_formed, answer_to, at_position, positions, acceptance}
@@ -40,21 +39,21 @@ module _ (q : Queue) where
       go (yes s) f = ap (positions q) (sym s)
       go (no s) f = f (omega arith)
 
-  next : (k : ℕ) → positions q k ≡ Done 0 → positions q (suc k) ≡ at_position q k
+  next : (k : ℕ) → positions q k ≡ Ok 0 → positions q (suc k) ≡ at_position q k
   unfolding positions
   next k e = ap (λ (a : Answer). pick (is_done a) (at_position q k) a) e
 
-  pub position-stops : (k : ℕ) (a : Answer) → positions q k ≡ Done 0 → k < size q → decoded_in q k ≡ Refused a → a ≡ positions q (size q)
+  pub position-stops : (k : ℕ) (why : Refusal) → positions q k ≡ Ok 0 → k < size q → decoded_in q k ≡ Err why → Err why ≡ positions q (size q)
   unfolding at_position
-  position-stops k a e h d =
+  position-stops k why e h d =
       let here = next k e ∙ ap answer_to d in
-      sym (stays (size q) (suc k) h (ap is_done here ∙ refusal true true k _ _ a d) ∙ here)
+      sym (stays (size q) (suc k) h (ap is_done here) ∙ here)
 
-  pub position-passes : (k : ℕ) (i : Instruction) → positions q k ≡ Done 0 → decoded_in q k ≡ Accepted i → positions q (k + 1) ≡ Done 0
+  pub position-passes : (k : ℕ) (i : Instruction) → positions q k ≡ Ok 0 → decoded_in q k ≡ Ok i → positions q (k + 1) ≡ Ok 0
   unfolding at_position
   position-passes k i e d = ap (positions q) (add-one k) ∙ next k e ∙ ap answer_to d
 
-  pub position-last : (k : ℕ) → positions q k ≡ Done 0 → k ≤ size q → size q ≤ k → Done 0 ≡ positions q (size q)
+  pub position-last : (k : ℕ) → positions q k ≡ Ok 0 → k ≤ size q → size q ≤ k → Ok 0 ≡ positions q (size q)
   position-last k e h g = sym (ap (positions q) same ∙ e)
     where
       same : size q ≡ k
@@ -63,21 +62,21 @@ module _ (q : Queue) where
   -- ---- the tests before them: a, b and e are what they said
   module _ (c : Control) where
     module _ (a : Bool) (ranged : a ≡ in_range c) where
-      pub refused-12 : not a ≡ true → OutOfRange ≡ standing c q
+      pub refused-12 : not a ≡ true → (Err OutOfRange) ≡ standing c q
       unfolding standing
       refused-12 out = rw (sym ranged ∙ not-true a out)
 
       module _ (b : Bool) (formed : b ≡ well_formed q) (within : not a ≡ false) where
-        pub refused-8 : not b ≡ true → QueueRefused ≡ standing c q
+        pub refused-8 : not b ≡ true → (Err QueueRefused) ≡ standing c q
         unfolding standing
         refused-8 ill = rw (sym ranged ∙ not-false a within, sym formed ∙ not-true b ill)
 
         module _ (e : Bool) (on : e ≡ enabled c) (well : not b ≡ false) where
-          pub refused-3 : not e ≡ true → Disabled ≡ standing c q
+          pub refused-3 : not e ≡ true → (Err Disabled) ≡ standing c q
           unfolding standing
           refused-3 off = rw (sym ranged ∙ not-false a within, sym formed ∙ not-false b well, sym on ∙ not-true e off)
 
-          pub refused-not : not e ≡ false → Done 0 ≡ standing c q
+          pub refused-not : not e ≡ false → Ok 0 ≡ standing c q
           unfolding standing
           refused-not still = rw (sym ranged ∙ not-false a within, sym formed ∙ not-false b well, sym on ∙ not-false e still)
 
@@ -85,9 +84,9 @@ module _ (q : Queue) where
     unfolding acceptance standing
     then = go (in_range c) (well_formed q) (enabled c)
       where
-        go : (a b e : Bool) → pick a (pick b (pick e (positions q (size q)) Disabled) QueueRefused) OutOfRange
-            ≡ pick (is_done (pick a (pick b (pick e (Done 0) Disabled) QueueRefused) OutOfRange)) (positions q (size q))
-            (pick a (pick b (pick e (Done 0) Disabled) QueueRefused) OutOfRange)
+        go : (a b e : Bool) → pick a (pick b (pick e (positions q (size q)) (Err Disabled)) (Err QueueRefused)) (Err OutOfRange)
+            ≡ pick (is_done (pick a (pick b (pick e (Ok 0) (Err Disabled)) (Err QueueRefused)) (Err OutOfRange))) (positions q (size q))
+            (pick a (pick b (pick e (Ok 0) (Err Disabled)) (Err QueueRefused)) (Err OutOfRange))
         go true true true = refl
         go true true false = refl
         go true false e = refl

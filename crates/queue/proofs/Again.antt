@@ -1,10 +1,11 @@
 -- Document 01, "Queues and orders": "So after an exception a second call gets 3." A run leaves a state in range, and one that recorded something leaves
 -- the processor disabled, by a list too, which ends in the same state. Assumes nothing.
+use Rattle.std.specs.Prelude.{Err}
 use mathlib.Core.Path.{◌≡◌, refl, ◌∙◌}
 use mathlib.Core.Bool.{true}
 use Prim.Native.Nat.{ℕ, zero, suc}
 use Rattle.numbers.proofs.Tests.{pick_true, pick-false}
-use Rattle.state.specs.declared.answer.Answer.TheVariants.{Disabled, QueueRefused, OutOfRange}
+use Rattle.state.specs.declared.answer.Refusal.TheVariants.{Disabled, QueueRefused, OutOfRange}
 use Rattle.state.specs.Answer.{is_done}
 use Rattle.state.specs.Marks.{Marked}
 use Rattle.state.specs.State.{in_range, enabled}
@@ -35,9 +36,9 @@ module _ (q : Queue) (b : Marked) (accepted : is_done (acceptance b.state.contro
   run-in-range = in-range (ran_through q b).state.control (ended-ranged ran ran-ranged)
 
   -- A SECOND CALL, of any queue, where something was recorded in the first
-  pub second_call : ran.gathered.recorded ≡ true → (q' : Queue) → well_formed q' ≡ true → acceptance (ran_through q b).state.control q' ≡ Disabled
+  pub second_call : ran.gathered.recorded ≡ true → (q' : Queue) → well_formed q' ≡ true → acceptance (ran_through q b).state.control q' ≡ (Err Disabled)
   unfolding acceptance ran_through
   second_call e q' w =
-      pick_true (in_range (ran_through q b).state.control) _ OutOfRange run-in-range
-      ∙ pick_true (well_formed q') _ QueueRefused w
-      ∙ pick-false (enabled (ran_through q b).state.control) (positions q' (size q')) Disabled (ended-disabled ran ran-ranged e)
+      pick_true (in_range (ran_through q b).state.control) _ (Err OutOfRange) run-in-range
+      ∙ pick_true (well_formed q') _ (Err QueueRefused) w
+      ∙ pick-false (enabled (ran_through q b).state.control) (positions q' (size q')) (Err Disabled) (ended-disabled ran ran-ranged e)

@@ -1,5 +1,6 @@
 -- DEMAND 3: every permitted list of a queue's steps, walked one entry at a time, ends where the queue ends straight through.
 -- Assumes nothing.
+use Rattle.std.specs.Prelude.{Ok, Err}
 use mathlib.Core.Path.{◌≡◌, refl, sym, ap, subst, ◌∙◌}
 use mathlib.Core.Logic.{◌↔◌}
 use mathlib.Core.Bool.{Bool, true, false}
@@ -12,9 +13,7 @@ use Rattle.state.specs.Answer.{number_of, beside_of, is_done}
 use Rattle.state.specs.Marks.{Marked}
 use Rattle.state.specs.Outcome.{Outcome, after_refusal, refused_marked}
 use Rattle.machine.specs.Run.{Run, begun, finished}
-use Rattle.order.specs.declared.Verdict.{Verdict}
-use Rattle.order.specs.declared.Verdict.TheVariants.{Permitted, Refused}
-use Rattle.order.specs.Order.{Right, Proper}
+use Rattle.order.specs.Order.{Verdict, Right, Proper}
 use Rattle.touch.specs.Parts.{Queue}
 use Rattle.touch.specs.Touch.{steps_of, must_precede}
 use Rattle.queue.specs.Queue.{acceptance}
@@ -31,8 +30,8 @@ walked-straight q list b = at (is_done (acceptance b.state.control q)) refl
   where
     by : (v : Verdict) → verdict_of q b.state.control.vlr list ≡ v → b.state.control.vlr ≤ 64
         → by_verdict b (ran_by q list b) v ≡ by_verdict b (ran_through q b) v
-    by Permitted e short = ap (λ (r : Run). by_verdict b (finished r) Permitted) (permitted-straight q (begun b) short list e)
-    by (Refused place) e short = refl
+    by (Ok tt) e short = ap (λ (r : Run). by_verdict b (finished r) (Ok tt)) (permitted-straight q (begun b) short list e)
+    by (Err place) e short = refl
 
     at : (t : Bool) → is_done (acceptance b.state.control q) ≡ t
         → pick t (by_verdict b (ran_by q list b) (verdict_of q b.state.control.vlr list)) (refused_marked (acceptance b.state.control q) b)
@@ -49,15 +48,15 @@ claim q list b o e accepted =
     (sym (e ∙ pick_true (is_done (acceptance b.state.control q)) _ _ accepted))
     (by (verdict_of q b.state.control.vlr list) (permitted-proper q b.state.control.vlr list) (verdict-right q b.state.control.vlr list) walks)
   where
-    walks : verdict_of q b.state.control.vlr list ≡ Permitted → ran_by q list b ≡ ran_through q b
+    walks : verdict_of q b.state.control.vlr list ≡ (Ok tt) → ran_by q list b ≡ ran_through q b
     walks p = ap finished (permitted-straight q (begun b) (fine-bounded b.state.control q accepted).short list p)
 
-    by : (v : Verdict) → (v ≡ Permitted) ↔ Proper (must_precede q b.state.control.vlr) (steps_of q b.state.control.vlr) list
+    by : (v : Verdict) → (v ≡ (Ok tt)) ↔ Proper (must_precede q b.state.control.vlr) (steps_of q b.state.control.vlr) list
         → Right (must_precede q b.state.control.vlr) (steps_of q b.state.control.vlr) list v
-        → (v ≡ Permitted → ran_by q list b ≡ ran_through q b)
+        → (v ≡ (Ok tt) → ran_by q list b ≡ ran_through q b)
         → Claim q list b (number_of (by_verdict b (ran_by q list b) v).answer) (beside_of (by_verdict b (ran_by q list b) v).answer)
         (by_verdict b (ran_by q list b) v).left
-    by Permitted iff right same = record {
+    by (Ok tt) iff right same = record {
       permitted = (λ _. iff.0 refl, λ _. refl);
       done = λ _. refl;
       straight = λ _. same refl;
@@ -65,7 +64,7 @@ claim q list b o e accepted =
       refused = λ n. absurd (n refl);
       kept = λ n. absurd (n refl);
     }
-    by (Refused place) iff right same = record {
+    by (Err place) iff right same = record {
       permitted = (λ z. absurd (omega arith), λ p. absurd (never place (iff.1 p)));
       done = λ z. absurd (omega arith);
       straight = λ z. absurd (omega arith);
@@ -74,7 +73,7 @@ claim q list b o e accepted =
       kept = λ _. refl;
     }
       where
-        never : (place : ℕ) → Refused place ≡ Permitted → ⊥
+        never : (place : ℕ) → ◌≡◌ {A = Verdict} (Err place) (Ok tt) → ⊥
         never place h = let z : ◌≡◌ {A = ℕ} 0 1 = cc in omega arith
 
 -- so what is walked meets all three promises

@@ -1,34 +1,29 @@
 -- A call on a queue goes through its positions once, and tests and decodes each; a call with a list then binds each. Assumes nothing.
+use Rattle.std.specs.Prelude.{Ok, Err}
 use mathlib.Core.Path.{◌≡◌, refl, sym, ap, ◌∙◌, subst}
-use mathlib.Core.Bool.{Bool, true, false, ◌&&◌}
+use mathlib.Core.Bool.{true, false, ◌&&◌}
 use mathlib.Core.List.{List}
 use Prim.Native.Nat.{ℕ, ◌+◌, ◌<◌, ◌≤◌}
 use native.Mathlib.Omega.{arith}
 use lib.Dec.{ltb}
 use lib.ListN.{length, get_or, set, replicate}
-use Rattle.numbers.specs.Choice.{pick}
 use Rattle.numbers.specs.Bits.{bit}
 use Rattle.state.specs.declared.Control.{Control}
-use Rattle.state.specs.declared.answer.Answer.{Answer}
-use Rattle.state.specs.declared.answer.Answer.TheVariants.{Done, OrderRefused}
-use Rattle.state.specs.Answer.{is_done}
-use Rattle.state.specs.declared.answer.Ended.{Ended}
-use Rattle.state.specs.Outcome.{outcome, refused as refused_of}
+use Rattle.state.specs.declared.answer.Refusal.{Refusal}
+use Rattle.state.specs.declared.answer.Refusal.TheVariants.{OrderRefused}
+use Rattle.state.specs.Outcome.{outcome, refused_marked}
 use Rattle.state.specs.Marks.{marked}
 use Rattle.state.specs.State.{state}
 use Rattle.opcodes.specs.declared.Instruction.{Instruction}
-use Rattle.opcodes.specs.declared.Decoded.TheVariants.{Accepted, Refused}
 use Rattle.opcodes.specs.Working.{Below}
 use Rattle.opcodes.specs.Opcodes.{is_memory}
-use Rattle.opcodes.proofs.Passed.{no-memory, refusal}
+use Rattle.opcodes.proofs.Passed.{no-memory}
 use Rattle.machine.specs.declared.Progress.{Progress}
 use Rattle.machine.specs.Run.{ended, starting, under_way}
-use Rattle.order.specs.declared.Verdict.{Verdict}
-use Rattle.order.specs.declared.Verdict.TheVariants as verdict
 use Rattle.touch.specs.Parts.{placeholder, Queue, size, decoded_in, instruction_or, instruction_at}
-use Rattle.queue.specs.Queue.{positions, acceptance}
+use Rattle.queue.specs.Queue.{positions}
 use Rattle.queue.specs.Run.{verdict_of, walked_run}
-use Rattle.order.specs.Order.{run as walk_of}
+use Rattle.order.specs.Order.{Verdict, run as walk_of}
 use Rattle.order.specs.Steps.{position}
 use Rattle.touch.specs.BindsWorking.{binds}
 use Rattle.touch.specs.TablesWorking.{readers_with, writers_with, bound_to}
@@ -41,7 +36,7 @@ use Rattle.queue.proofs.Through.{at-runs}
 use Rattle.order.proofs.Sets.{built-at}
 use Rattle.touch.proofs.Noting.{Tabled, tabled-none, tabled-more, bound-is}
 use Rattle.queue.proofs.Verdicts.{RightTables, bound-earlier, tables-verdict}
-use Rattle.queue.proofs.Calls.{Bounded, reply-bounded, through-meets, order-refused, order-stopped, entry-position, order-done}
+use Rattle.queue.proofs.Calls.{Bounded, reply-bounded, order-refused, order-stopped, entry-position, order-done}
 
 -- ---- the positions are tested and decoded
 module _ (q : Queue) where
@@ -52,7 +47,7 @@ module _ (q : Queue) where
   pub record DecodedSoFar (program : List Instruction) (k : ℕ) : Type 0 where
     pub lengths : Lengths q
     pub inside : k ≤ size q
-    pub passed : positions q k ≡ Done 0
+    pub passed : positions q k ≡ Ok 0
     pub decoded : Filled blank decodes program k
 
   pub decoded-none : Lengths q → (program : List Instruction) → length program ≡ 16 → DecodedSoFar program 0
@@ -64,7 +59,7 @@ module _ (q : Queue) where
     decoded = fill_none _ _ program long;
   }
 
-  pub decoded-more : (program : List Instruction) (k : ℕ) → DecodedSoFar program k → k < size q → (ins : Instruction) → decoded_in q k ≡ Accepted ins
+  pub decoded-more : (program : List Instruction) (k : ℕ) → DecodedSoFar program k → k < size q → (ins : Instruction) → decoded_in q k ≡ Ok ins
       → DecodedSoFar (set program k ins) (k + 1)
   unfolding instruction_at
   decoded-more program k inv h ins e =
@@ -76,21 +71,18 @@ module _ (q : Queue) where
       }
 
   -- the call's answer
-  module _ (c : Control) (r : Answer) (stands : r ≡ standing c q) where
-    refused : (s : Answer) (program : List Instruction) → s ≡ acceptance c q → is_done s ≡ false → Accepts c q s program
-    refused s program e f = record { answered = e; decoded = λ t. absurd (let z : ◌≡◌ {A = ℕ} 0 1 = ap (λ (b : Bool). pick b 0 1) (sym t ∙ f) in omega arith) }
+  module _ (c : Control) where
+    pub accepts-not : (why : Refusal) → Err why ≡ standing c q → Accepts c q (Err why)
+    accepts-not why stands = record { answered = by-standing q c (Err why) stands refl; decoded = tt }
 
-    pub accepts-not : (program : List Instruction) → is_done r ≡ false → Accepts c q r program
-    accepts-not program f = refused r program (by-standing q c r stands f) f
+    module _ (stands : Ok 0 ≡ standing c q) (program : List Instruction) (k : ℕ) (inv : DecodedSoFar program k) where
+      pub accepts-stops : (why : Refusal) → k < size q → decoded_in q k ≡ Err why → Accepts c q (Err why)
+      accepts-stops why h d = record { answered = position-stops q k why inv.passed h d ∙ by-position q c (Ok 0) stands refl; decoded = tt }
 
-    module _ (passes : is_done r ≡ true) (program : List Instruction) (k : ℕ) (inv : DecodedSoFar program k) where
-      pub accepts-stops : (a : Answer) → k < size q → decoded_in q k ≡ Refused a → Accepts c q a program
-      accepts-stops a h d = refused a program (position-stops q k a inv.passed h d ∙ by-position q c r stands passes) (refusal true true k _ _ a d)
-
-      pub accepts-all : size q ≤ k → Accepts c q (Done 0) program
+      pub accepts-all : size q ≤ k → Accepts c q (Ok program)
       accepts-all end = record {
-        answered = position-last q k inv.passed inv.inside end ∙ by-position q c r stands passes;
-        decoded = λ f j h. inv.decoded.first j (omega arith);
+        answered = position-last q k inv.passed inv.inside end ∙ by-position q c (Ok 0) stands refl;
+        decoded = λ j h. inv.decoded.first j (omega arith);
       }
 
 -- ---- and bound
@@ -139,20 +131,30 @@ module _ (q : Queue) where
     }
 
 -- ---- a call with a list, from what its parts give
-module _ (q : Queue) (l m : List ℕ) (c : Control) (r : Answer) (program : List Instruction) (accepts : Accepts c q r program) where
-  pub listed-refused : is_done r ≡ false → (list : List ℕ) (d : Ended) → outcome d.answer d.control ≡ refused_of r c
-      → outcome d.answer (marked (state l d.control) m) ≡ walked_run q list (marked (state l c) m)
-  listed-refused f = order-refused q l m c r accepts.answered f
+module _ (q : Queue) (l m : List ℕ) (c : Control) where
+  pub listed-refused : (why : Refusal) → Accepts c q (Err why) → (list : List ℕ) → refused_marked (Err why) (marked (state l c) m) ≡ walked_run q list
+      (marked (state l c) m)
+  listed-refused why accepts = order-refused q l m c (Err why) accepts.answered refl
 
-  module _ (passes : is_done r ≡ true) where
+  module _ (program : List Instruction) (accepts : Accepts c q (Ok program)) where
     bounds-kept : Bounded c q
-    bounds-kept = reply-bounded q l m c r accepts.answered passes
+    bounds-kept = reply-bounded q l m c (Ok 0) accepts.answered refl
 
     decoding : (j : ℕ) → j < size q → decoded_at program j ≡ instruction_at q j
-    decoding = accepts.decoded passes
+    decoding = accepts.decoded
 
     pub listed-few : size q ≤ 16
     listed-few = bounds-kept.lengths.few
+
+    -- what the code's value of the program says of itself
+    pub program-few : length q.scalars ≤ 16
+    program-few = rw bounds-kept.lengths.scalars bounds-kept.lengths.few
+
+    pub program-runs : (j : ℕ) → j < length q.scalars → Runs (decoded_at program j)
+    program-runs j h = rw (decoding j (rw bounds-kept.lengths.scalars at h)) (at-runs q j)
+
+    pub begun-short : (p : Progress) → p ≡ starting c → p.control.vlr ≤ 64
+    begun-short p e = rw (ap (λ (b : Progress). b.control.vlr) e) bounds-kept.short
 
     pub listed_below : (j : ℕ) → j < size q → Below (decoded_at program j)
     listed_below j h = rw (decoding j h) (at-below q j)
@@ -169,25 +171,16 @@ module _ (q : Queue) (l m : List ℕ) (c : Control) (r : Answer) (program : List
         right : v ≡ verdict_of q c.vlr list
         right = checked ∙ tables-verdict q c.vlr (get_or writers 17 0) bound (prepared-tables q bound readers writers k inv end) bounds-kept.short list
 
-        pub listed-stopped : (place : ℕ) → v ≡ verdict.Refused place
-            → (d : Ended) → outcome d.answer d.control ≡ refused_of (OrderRefused place) c
-            → outcome d.answer (marked (state l d.control) m) ≡ walked_run q list (marked (state l c) m)
-        listed-stopped place e = order-stopped q l m c r accepts.answered passes list v place right e
+        pub listed-stopped : (place : ℕ) → v ≡ Err place
+            → refused_marked (Err (OrderRefused place)) (marked (state l c) m) ≡ walked_run q list (marked (state l c) m)
+        listed-stopped place e = order-stopped q l m c (Ok 0) accepts.answered refl list v place right e
 
-        module _ (permitted : v ≡ verdict.Permitted) (p : Progress) (begun : p ≡ starting c) where
-          pub list-meets : ((p.control.vlr ≤ 64) × (length q.scalars ≤ 16))
-              × (((j : ℕ) → j < length q.scalars → Runs (decoded_at program j))
-              × ((i : ℕ) → i < length list → position (get_or list i 0) < length q.scalars))
-          list-meets =
-              let t = through-meets q l m c r accepts.answered passes program decoding p begun in (
-                t.0,
-                (
-                  t.1,
-                  λ i h. rw bounds-kept.lengths.scalars (entry-position q l m c r accepts.answered passes list program decoding v right permitted i h),
-                ),
-              )
+        module _ (permitted : v ≡ Ok tt) where
+          pub listed-inside : (i : ℕ) → i < length list → position (get_or list i 0) < length q.scalars
+          listed-inside i h =
+              rw bounds-kept.lengths.scalars (entry-position q l m c (Ok 0) accepts.answered refl list program decoding v right permitted i h)
 
-          pub listed-done : (l' m' : List ℕ) (p' : Progress) (c' : Control) → c' ≡ ended p'.control p'.noted.vaer p'.noted.recorded
+          pub listed-done : (l' m' : List ℕ) (p p' : Progress) (c' : Control) → p ≡ starting c → c' ≡ ended p'.control p'.noted.vaer p'.noted.recorded
               → under_way l' m' p' ≡ walk_of (act_by program q.scalars) list (under_way l m p)
-              → outcome (Done 0) (marked (state l' c') m') ≡ walked_run q list (marked (state l c) m)
-          listed-done l' m' p' c' = order-done q l m c r accepts.answered passes list program decoding v right permitted l' m' p p' c' begun
+              → outcome (Ok 0) (marked (state l' c') m') ≡ walked_run q list (marked (state l c) m)
+          listed-done = order-done q l m c (Ok 0) accepts.answered refl list program decoding v right permitted

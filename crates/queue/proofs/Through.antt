@@ -1,4 +1,5 @@
 -- The run straight through, as the code's loop does it. Assumes nothing.
+use Rattle.std.specs.Prelude.{Ok, Err}
 use mathlib.Core.Path.{◌≡◌, refl, ap, ◌∙◌}
 use mathlib.Core.Bool.{Bool, true, false}
 use mathlib.Core.List.{List}
@@ -8,11 +9,10 @@ use lib.ListN.{get_or}
 use Rattle.numbers.specs.Choice.{pick}
 use Rattle.numbers.specs.Rising.{rising}
 use Rattle.opcodes.specs.declared.Instruction.{Instruction}
-use Rattle.opcodes.specs.declared.Decoded.{Decoded}
-use Rattle.opcodes.specs.declared.Decoded.TheVariants.{Accepted, Refused}
+use Rattle.opcodes.specs.Decoding.{Decoded}
 use Rattle.opcodes.specs.Works.{row_of}
-use Rattle.opcodes.specs.Opcodes.{work_at, row_at, writes_mask, in_one_step}
-use Rattle.opcodes.specs.Working.{in_table, is_register_work}
+use Rattle.opcodes.specs.Opcodes.{writes_mask, in_one_step}
+use Rattle.opcodes.specs.Working.{is_register_work}
 use Rattle.opcodes.proofs.Passed.{passed, register-work}
 use Rattle.machine.specs.Run.{Run}
 use Rattle.machine.specs.Step.{received, written, worked, element_step}
@@ -62,7 +62,7 @@ whole-short i scalar r r' h e = rw (ap vlr_of e ∙ whole-vlr i scalar r) h
 
 -- ---- what stands at a position of a queue, accepted or not, is one that the machine runs
 placed : is_register_work placeholder.work ≡ true
-unfolding row_at row_of work_at in_table
+unfolding row_of
 placed = refl
 
 pub at-runs : (q : Queue) (k : ℕ) → Runs (instruction_at q k)
@@ -70,8 +70,8 @@ unfolding instruction_at
 at-runs q k = record { below = at-below q k; work = at (decoded_in q k) refl }
   where
     at : (d : Decoded) → decoded_in q k ≡ d → is_register_work (instruction_or placeholder d).work ≡ true
-    at (Refused a) e = placed
-    at (Accepted i) e = register-work i (passed true true k _ _ i e)
+    at (Err a) e = placed
+    at (Ok i) e = register-work i (passed true true k _ _ i e)
 
 -- ---- a decoded queue does what the queue does
 pub same-through : (q : Queue) (program : List Instruction) → ((k : ℕ) → k < size q → decoded_at program k ≡ instruction_at q k) → (n : ℕ) → n ≤ size q

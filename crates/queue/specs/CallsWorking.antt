@@ -1,12 +1,12 @@
 -- What the code of the two calls computes with: a decoded queue, its steps and its run (proofs/Through.antt, Calls.antt), and its acceptance
 -- (proofs/Accepting.antt). No promise of a call cites it.
-use Rattle.std.specs.Prelude.{◌≡◌, true, false, List, ℕ, ◌<◌, get_or}
+use Rattle.std.specs.Prelude.{◌≡◌, true, false, List, ℕ, ◌<◌, ⊤, get_or, Result, Ok, Err}
 use Rattle.numbers.specs.Rising.{rising}
 use Rattle.state.specs.declared.Control.{Control}
-use Rattle.state.specs.declared.answer.Answer.{Answer}
-use Rattle.state.specs.declared.answer.Answer.TheVariants.{Done}
-use Rattle.state.specs.Answer.{is_done}
+use Rattle.state.specs.declared.answer.Refusal.{Refusal}
+use Rattle.state.specs.Answer.{Answer, answered as answered_by}
 use Rattle.opcodes.specs.declared.Instruction.{Instruction}
+use Rattle.opcodes.specs.declared.works.Work.TheVariants.{NoWork}
 use Rattle.opcodes.specs.ControlWord.{instruction_of}
 use Rattle.opcodes.specs.Working.{Below, is_register_work}
 use Rattle.machine.specs.Run.{Run}
@@ -22,7 +22,7 @@ pub record Runs (ins : Instruction) : Type 0 where
 
 -- what a list of instructions has past its end
 abbrev pub blank : Instruction
-blank = instruction_of 0 false 0
+blank = instruction_of NoWork false 0
 
 -- the instruction at a position of a decoded queue
 abbrev pub decoded_at : List Instruction → ℕ → Instruction
@@ -38,9 +38,13 @@ through_by program scalars n r = rising (λ (k : ℕ) (x : Run). whole_of (decod
 
 -- ---- the tests before the positions of a queue: 12, 8, then 3
 unfoldable pub standing : Control → Queue → Answer
-standing c q = after_tests c q (Done 0)
+standing c q = after_tests c q (Ok 0)
 
 -- what a queue gets, and its decoded form where it is accepted
-pub record Accepts (c : Control) (q : Queue) (a : Answer) (program : List Instruction) : Type 0 where
-  pub answered : a ≡ acceptance c q
-  pub decoded : is_done a ≡ true → (k : ℕ) → k < size q → decoded_at program k ≡ instruction_at q k
+abbrev pub DecodedAs : Queue → Result (List Instruction) Refusal → Type 0
+DecodedAs q (Ok program) = (k : ℕ) → k < size q → decoded_at program k ≡ instruction_at q k
+DecodedAs q (Err refusal) = ⊤
+
+pub record Accepts (c : Control) (q : Queue) (r : Result (List Instruction) Refusal) : Type 0 where
+  pub answered : answered_by r ≡ acceptance c q
+  pub decoded : DecodedAs q r

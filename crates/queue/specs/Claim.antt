@@ -1,9 +1,8 @@
 -- Document 01, "Queues and orders". DEMAND 3, as a single claim about a state with its marks, a queue that is accepted there, any list, and what
 -- the call by that list gives back and leaves.
-use Rattle.std.specs.Prelude.{true, List, ◌↔◌, ◌≡◌, ℕ}
+use Rattle.std.specs.Prelude.{true, List, Err, ◌↔◌, ◌≡◌, ℕ}
 use Rattle.state.specs.Answer.{is_done}
 use Rattle.state.specs.Marks.{Marked}
-use Rattle.order.specs.declared.Verdict.TheVariants.{Refused}
 use Rattle.order.specs.Order.{Right, Proper}
 use Rattle.touch.specs.Parts.{Queue}
 use Rattle.touch.specs.Touch.{steps_of, must_precede}
@@ -18,7 +17,7 @@ pub record Claim (q : Queue) (list : List ℕ) (b : Marked) (number beside : ℕ
   pub straight : number ≡ 0 → after ≡ ran_through q b
   pub walked : number ≡ 0 → after ≡ ran_by q list b
   -- else 9, with the first entry that is no step, or a repeat, or comes too early; or the list's length where steps are missing
-  pub refused : (number ≡ 0 → ⊥) → (number ≡ 9) × Right (must_precede q b.state.control.vlr) (steps_of q b.state.control.vlr) list (Refused beside)
+  pub refused : (number ≡ 0 → ⊥) → (number ≡ 9) × Right (must_precede q b.state.control.vlr) (steps_of q b.state.control.vlr) list (Err beside)
   -- and then nothing has changed
   pub kept : (number ≡ 0 → ⊥) → after ≡ b
 

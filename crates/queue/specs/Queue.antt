@@ -1,13 +1,11 @@
 -- Document 01, "Numbers given back" and "Queues and orders": whether a queue is accepted, and its run straight through.
-use Rattle.std.specs.Prelude.{Bool, ◌&&◌, ℕ, zero, suc, leb, eqb, length}
+use Rattle.std.specs.Prelude.{Bool, ◌&&◌, ℕ, zero, suc, leb, eqb, length, Ok, Err}
 use Rattle.numbers.specs.Choice.{pick}
 use Rattle.state.specs.declared.Control.{Control}
-use Rattle.state.specs.declared.answer.Answer.{Answer}
-use Rattle.state.specs.declared.answer.Answer.TheVariants.{Done, Disabled, QueueRefused, OutOfRange}
-use Rattle.state.specs.Answer.{is_done}
+use Rattle.state.specs.declared.answer.Refusal.TheVariants.{Disabled, QueueRefused, OutOfRange}
+use Rattle.state.specs.Answer.{Answer, is_done}
 use Rattle.state.specs.State.{in_range, enabled}
-use Rattle.opcodes.specs.declared.Decoded.{Decoded}
-use Rattle.opcodes.specs.declared.Decoded.TheVariants.{Accepted, Refused}
+use Rattle.opcodes.specs.Decoding.{Decoded}
 use Rattle.machine.specs.Run.{Run}
 use Rattle.machine.specs.Instruction.{whole_of}
 use Rattle.touch.specs.Parts.{Queue, size, decoded_in, instruction_at, scalar_at}
@@ -18,20 +16,20 @@ well_formed q = leb (size q) 16 && eqb (length q.control_words) (size q) && eqb 
 
 -- what one position gets: 1, 7, 2, or none of these
 abbrev pub answer_to : Decoded → Answer
-answer_to (Refused a) = a
-answer_to (Accepted i) = Done 0
+answer_to (Err refusal) = Err refusal
+answer_to (Ok i) = Ok 0
 
 unfoldable pub at_position : Queue → ℕ → Answer
 at_position q k = answer_to (decoded_in q k)
 
 -- the first refusal among the first n positions, or none
 unfoldable pub positions : Queue → ℕ → Answer
-positions q zero = Done 0
+positions q zero = Ok 0
 positions q (suc n) = pick (is_done (positions q n)) (at_position q n) (positions q n)
 
 -- 12, 8, then 3, then the rest
 abbrev pub after_tests : Control → Queue → Answer → Answer
-after_tests c q rest = pick (in_range c) (pick (well_formed q) (pick (enabled c) rest Disabled) QueueRefused) OutOfRange
+after_tests c q rest = pick (in_range c) (pick (well_formed q) (pick (enabled c) rest (Err Disabled)) (Err QueueRefused)) (Err OutOfRange)
 
 -- 12, 8, then 3, then per position; a queue that gets none of these is accepted
 unfoldable pub acceptance : Control → Queue → Answer

@@ -1,24 +1,22 @@
 -- Document 01, "Queues and orders": the two calls on a queue, straight through and by a list of steps. specs/Claim.antt says of them what demand 3 asks.
-use Rattle.std.specs.Prelude.{List, ℕ}
+use Rattle.std.specs.Prelude.{List, ℕ, Ok, Err}
 use Rattle.numbers.specs.Choice.{pick}
-use Rattle.state.specs.declared.answer.Answer.TheVariants.{Done, OrderRefused}
+use Rattle.state.specs.declared.answer.Refusal.TheVariants.{OrderRefused}
 use Rattle.state.specs.Answer.{is_done}
 use Rattle.state.specs.Marks.{Marked}
 use Rattle.state.specs.Outcome.{Outcome, outcome, refused_marked}
 use Rattle.machine.specs.Run.{begun, finished}
-use Rattle.order.specs.declared.Verdict.{Verdict}
-use Rattle.order.specs.declared.Verdict.TheVariants.{Permitted, Refused}
 use Rattle.touch.specs.Parts.{Queue, size}
 use Rattle.queue.specs.Queue.{acceptance, straight}
 use Rattle.touch.specs.Touch.{steps_of, act, must_precede}
-use Rattle.order.specs.Order.{check, run}
+use Rattle.order.specs.Order.{Verdict, check, run}
 
 -- the state and the marks after an accepted queue, run straight through; VEN and AEX change only at its end
 unfoldable pub ran_through : Queue → Marked → Marked
 ran_through q b = finished (straight q (size q) (begun b))
 
 unfoldable pub queue_run : Queue → Marked → Outcome Marked
-queue_run q b = pick (is_done (acceptance b.state.control q)) (outcome (Done 0) (ran_through q b)) (refused_marked (acceptance b.state.control q) b)
+queue_run q b = pick (is_done (acceptance b.state.control q)) (outcome (Ok 0) (ran_through q b)) (refused_marked (acceptance b.state.control q) b)
 
 -- the list is permitted, or is refused at a position
 unfoldable pub verdict_of : Queue → ℕ → List ℕ → Verdict
@@ -26,8 +24,8 @@ verdict_of q vlr list = check (must_precede q vlr) (steps_of q vlr) list
 
 -- by a list of an accepted queue, where a permitted one ends in the state and the marks `end`
 abbrev pub by_verdict : Marked → Marked → Verdict → Outcome Marked
-by_verdict b end Permitted = outcome (Done 0) end
-by_verdict b end (Refused place) = refused_marked (OrderRefused place) b
+by_verdict b end (Ok _) = outcome (Ok 0) end
+by_verdict b end (Err place) = refused_marked (Err (OrderRefused place)) b
 
 -- the state and the marks after a permitted list: one entry at a time, each step on what the last one left; VEN and AEX change only after its last entry
 unfoldable pub ran_by : Queue → List ℕ → Marked → Marked

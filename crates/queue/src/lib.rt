@@ -2,9 +2,9 @@
 #![tactic(auto)]
 
 ghost use Rattle.std.specs.Prelude.{◌≡◌};
-ghost use Rattle.state.specs.Answer.{number_of, beside_of};
+ghost use Rattle.state.specs.Answer.{number_of, beside_of, answered};
 ghost use Rattle.state.specs.Marks.{marked};
-ghost use Rattle.state.specs.Outcome.{outcome};
+ghost use Rattle.state.specs.Outcome.{outcome, control_left};
 ghost use Rattle.state.specs.State.{state};
 ghost use Rattle.touch.specs.Parts.{queue};
 ghost use Rattle.queue.specs.Run.{queue_run, walked_run, ordered_run};
@@ -12,10 +12,10 @@ ghost use Rattle.queue.specs.Claim.{AcceptedClaim};
 
 use machine::run;
 use order;
-use order::Verdict;
-use state::answer::{Answer, Ended};
-use state::{Control, answer};
-use touch;
+use runs::Program;
+use state::Control;
+use state::answer::Refusal;
+use touch::Tables;
 
 mod acceptance;
 mod runs;
@@ -28,20 +28,16 @@ pub fn run(
     opcodes: &[u8],
     cntrls: &[u16],
     scalars: &[u64],
-) -> Ended
-    ensures { outcome result.answer (marked (state elements.new result.control) marks.new) ≡ queue_run (queue opcodes.now cntrls.now scalars.now) (marked (state elements.old control) marks.old) }
+) -> Result<Control, Refusal>
+    ensures { outcome (answered result) (marked (state elements.new (control_left control result)) marks.new) ≡ queue_run (queue opcodes.now cntrls.now scalars.now) (marked (state elements.old control) marks.old) }
 {
-    let accepted = acceptance::accept(control, opcodes, cntrls, scalars);
-    let given = accepted.answer;
-    if !answer::is_done(given) {
-        return answer::refused(given, control);
-    }
-    let program = accepted.program;
-    let progress = runs::straight(elements, marks, run::begin(control), program, scalars);
-    Ended {
-        answer: Answer::Done(0),
-        control: run::end(progress),
-    }
+    let instructions = acceptance::accept(control, opcodes, cntrls, scalars)?;
+    let program = Program {
+        instructions: &instructions,
+        scalars,
+    };
+    let progress = program.straight(elements, marks, run::begin(control));
+    Ok(run::end(progress))
 }
 
 // A queue by a list of its steps: the entries of a permitted list are done one after the other, which ends in the state and the marks of
@@ -54,35 +50,24 @@ pub fn run_order(
     cntrls: &[u16],
     scalars: &[u64],
     list: &[u64],
-) -> Ended
-    ensures straight { outcome result.answer (marked (state elements.new result.control) marks.new) ≡ ordered_run (queue opcodes.now cntrls.now scalars.now) list.now (marked (state elements.old control) marks.old) }
-    ensures walked { outcome result.answer (marked (state elements.new result.control) marks.new) ≡ walked_run (queue opcodes.now cntrls.now scalars.now) list.now (marked (state elements.old control) marks.old) }
-    ensures demand { AcceptedClaim (queue opcodes.now cntrls.now scalars.now) list.now (marked (state elements.old control) marks.old) (number_of result.answer) (beside_of result.answer) (marked (state elements.new result.control) marks.new) }
+) -> Result<Control, Refusal>
+    ensures straight { outcome (answered result) (marked (state elements.new (control_left control result)) marks.new) ≡ ordered_run (queue opcodes.now cntrls.now scalars.now) list.now (marked (state elements.old control) marks.old) }
+    ensures walked { outcome (answered result) (marked (state elements.new (control_left control result)) marks.new) ≡ walked_run (queue opcodes.now cntrls.now scalars.now) list.now (marked (state elements.old control) marks.old) }
+    ensures demand { AcceptedClaim (queue opcodes.now cntrls.now scalars.now) list.now (marked (state elements.old control) marks.old) (number_of (answered result)) (beside_of (answered result)) (marked (state elements.new (control_left control result)) marks.new) }
 {
-    let accepted = acceptance::accept(control, opcodes, cntrls, scalars);
-    let given = accepted.answer;
-    if !answer::is_done(given) {
-        return answer::refused(given, control);
-    }
+    let instructions = acceptance::accept(control, opcodes, cntrls, scalars)?;
     let mut bound = [0u64; 16];
-    let mut readers = [0u64; 18];
-    let mut writers = [0u64; 18];
-    let mut k: usize = 0;
-    while k < opcodes.len() {
-        let instruction = accepted.program[k];
-        bound[k] = touch::bind(instruction, k, &mut readers, &mut writers);
-        k += 1;
+    let mut tables = Tables::new();
+    for k in 0..opcodes.len() {
+        bound[k] = tables.bind(instructions[k], k);
     }
-    // Only IOTAs write the count, place 17.
-    match order::check(opcodes.len(), control.vlr, writers[17], &bound, list) {
-        Verdict::Permitted => {
-            let program = accepted.program;
-            let progress = runs::walk(elements, marks, run::begin(control), program, scalars, list);
-            Ended {
-                answer: Answer::Done(0),
-                control: run::end(progress),
-            }
-        }
-        Verdict::Refused(place) => answer::refused(Answer::OrderRefused(place), control),
-    }
+    order::check(opcodes.len(), control.vlr, tables.iotas(), &bound, list).map_err(
+        |place| Refusal::OrderRefused(place),
+    )?;
+    let program = Program {
+        instructions: &instructions,
+        scalars,
+    };
+    let progress = program.walk(elements, marks, run::begin(control), list);
+    Ok(run::end(progress))
 }

@@ -9,85 +9,77 @@ use machine::{Progress, instruction};
 use opcodes::Instruction;
 use state::Element;
 
-// Each instruction in queue order, done whole on what the last one left.
-pub fn straight(
-    elements: &mut [u64; 1024],
-    marks: &mut [u64; 16],
-    begun: Progress,
-    program: [Instruction; 16],
-    scalars: &[u64],
-) -> Progress
-    requires sizes { (begun.control.vlr ≤ 64) × (length scalars.now ≤ 16) }
-    requires runs { (k : ℕ) → k < length scalars.now → Runs (decoded_at program k) }
-    ensures { under_way elements.new marks.new result ≡ through_by program scalars.now (length scalars.now) (under_way elements.old marks.old begun) }
-{
-    let mut progress = begun;
-    let mut k: usize = 0;
-    while k < scalars.len() {
-        let instruction = program[k];
-        progress = instruction::whole(
-            &mut *elements,
-            &mut *marks,
-            progress,
-            instruction,
-            scalars[k],
-        );
-        k += 1;
-    }
-    progress
+// An accepted queue: its instructions, decoded, and for each position its scalar.
+#[derive(Clone, Copy)]
+pub(crate) struct Program<'a> {
+    pub instructions: &'a [Instruction; 16],
+    pub scalars: &'a [u64],
+    ghost few: { length scalars.now ≤ 16 },
+    ghost runs: { (k : ℕ) → k < length scalars.now → Runs (decoded_at instructions.now k) },
 }
 
-// One entry of a list: its step.
-fn enter(
-    elements: &mut [u64; 1024],
-    marks: &mut [u64; 16],
-    begun: Progress,
-    program: [Instruction; 16],
-    scalars: &[u64],
-    x: u64,
-) -> Progress
-    requires sizes { (begun.control.vlr ≤ 64) × (length scalars.now ≤ 16) × (position x < length scalars.now) }
-    requires runs { (k : ℕ) → k < length scalars.now → Runs (decoded_at program k) }
-    ensures { under_way elements.new marks.new result ≡ act_by program scalars.now x (under_way elements.old marks.old begun) }
-{
-    let p = (x / 64) as usize;
-    let instruction = program[p];
-    instruction::step(
-        elements,
-        marks,
-        begun,
-        instruction,
-        scalars[p],
-        Element((x % 64) as usize),
-    )
-}
-
-// The steps of a permitted list, one entry at a time: each is done on what the last one left.
-pub fn walk(
-    elements: &mut [u64; 1024],
-    marks: &mut [u64; 16],
-    begun: Progress,
-    program: [Instruction; 16],
-    scalars: &[u64],
-    list: &[u64],
-) -> Progress
-    requires sizes { (begun.control.vlr ≤ 64) × (length scalars.now ≤ 16) }
-    requires runs { (k : ℕ) → k < length scalars.now → Runs (decoded_at program k) }
-    requires positions { (i : ℕ) → i < length list.now → position (get_or list.now i 0) < length scalars.now }
-    ensures { under_way elements.new marks.new result ≡ run (act_by program scalars.now) list.now (under_way elements.old marks.old begun) }
-{
-    let mut progress = begun;
-    let mut i: usize = 0;
-    while i < list.len() {
-        progress = enter(
-            &mut *elements,
-            &mut *marks,
-            progress,
-            program,
-            scalars,
-            list[i],
-        );
-        i += 1;
+impl Program<'_> {
+    // Each instruction in queue order, done whole on what the last one left.
+    pub(crate) fn straight(
+        &self,
+        elements: &mut [u64; 1024],
+        marks: &mut [u64; 16],
+        begun: Progress,
+    ) -> Progress
+        requires { begun.control.vlr ≤ 64 }
+        ensures { under_way elements.new marks.new result ≡ through_by self.now.instructions.now self.now.scalars.now (length self.now.scalars.now) (under_way elements.old marks.old begun) }
+    {
+        let mut progress = begun;
+        for k in 0..self.scalars.len() {
+            progress = instruction::whole(
+                &mut *elements,
+                &mut *marks,
+                progress,
+                self.instructions[k],
+                self.scalars[k],
+            );
+        }
+        progress
     }
-    progress
+
+    // One entry of a list: its step.
+    fn enter(
+        &self,
+        elements: &mut [u64; 1024],
+        marks: &mut [u64; 16],
+        begun: Progress,
+        x: u64,
+    ) -> Progress
+        requires { (begun.control.vlr ≤ 64) × (position x < length self.now.scalars.now) }
+        ensures { under_way elements.new marks.new result ≡ act_by self.now.instructions.now self.now.scalars.now x (under_way elements.old marks.old begun) }
+    {
+        let p = (x / 64) as usize;
+        instruction::step(
+            elements,
+            marks,
+            begun,
+            self.instructions[p],
+            self.scalars[p],
+            Element((x % 64) as usize),
+        )
+    }
+
+    // The steps of a permitted list, one entry at a time: each is done on what the last one left.
+    pub(crate) fn walk(
+        &self,
+        elements: &mut [u64; 1024],
+        marks: &mut [u64; 16],
+        begun: Progress,
+        list: &[u64],
+    ) -> Progress
+        requires short { begun.control.vlr ≤ 64 }
+        requires positions { (i : ℕ) → i < length list.now → position (get_or list.now i 0) < length self.now.scalars.now }
+        ensures { under_way elements.new marks.new result ≡ run (act_by self.now.instructions.now self.now.scalars.now) list.now (under_way elements.old marks.old begun) }
+    {
+        let mut progress = begun;
+        for x in list {
+            progress = self.enter(&mut *elements, &mut *marks, progress, *x);
+        }
+        progress
+    }
 }

@@ -1,52 +1,51 @@
 -- One instruction record's parts by their bytes, and the loops over the records. Assumes nothing.
-use mathlib.Core.Bool.{Bool, true, ◌&&◌, and-true}
+use mathlib.Core.Bool.{Bool, ◌&&◌, and-true, and_assoc}
 use mathlib.Core.Path.{◌≡◌, refl, sym, ap, ◌∙◌}
 use mathlib.Core.List.{List, [], ◌∷◌, ◌++◌}
-use Prim.Native.Nat.{ℕ, zero, suc, ◌+◌, ◌-◌, ◌*◌, ◌≤◌}
+use Prim.Native.Nat.{ℕ, zero, suc, ◌+◌, ◌*◌, ◌≤◌}
+use native.Mathlib.Nat.{zero-mul, suc-mul, add_comm}
 use native.Mathlib.Numerals.{add-one}
 use native.Mathlib.Omega.{arith}
 use lib.Dec.{eqb}
-use lib.ListN.{length, get_or, set, take, drop, length-set}
-use lib.Seq.{take-suc-set}
-use Rattle.numbers.specs.Bytes.{number_of}
+use lib.ListN.{length, get_or, set, take, drop, replicate, length-drop, length-set}
+use lib.Seq.{take_all, drop-drop, take-suc-set}
+use Rattle.std.specs.List.{list_all}
+use lib.Pointwise.{pointwise}
+use Rattle.std.specs.Simd.{first_chunks}
+use Rattle.numbers.specs.Bytes.{number_of, all_zero}
 use Rattle.numbers.proofs.Places.{places, values_below}
-use Rattle.saved.proofs.Loading.{part-is}
-use Rattle.running.specs.Records.{control_word_in, scalar_in, unfilled, all_unfilled, each}
+use Rattle.running.specs.Records.{record_at, scalar_in, unfilled, all_unfilled, each}
 use Rattle.running.specs.Working.{filled}
 
 module _ (part : List ℕ) (e : length part ≡ 16) where
-  abbrev byte : ℕ → ℕ
-  byte i = get_or part i 0
+  -- the last eight bytes of a record
+  pub scalar_bytes : (v : ℕ) → v ≡ number_of (take 8 (drop 8 part)) → v ≡ scalar_in part
+  scalar_bytes v f = f ∙ ap number_of (take_all 8 (drop 8 part) (simp length-drop (omega arith)))
 
-  abbrev zeroed : ℕ → Bool
-  zeroed i = eqb (byte i) 0
-
-  whole : part ≡ values_below 16 byte
-  whole = places 16 part e
-
-  pub control-word-bytes : number_of (byte 2 ∷ byte 3 ∷ []) ≡ control_word_in part
-  control-word-bytes = sym (ap control_word_in whole)
-
-  pub scalar-bytes : number_of (byte 8 ∷ byte 9 ∷ byte 10 ∷ byte 11 ∷ byte 12 ∷ byte 13 ∷ byte 14 ∷ byte 15 ∷ []) ≡ scalar_in part
-  scalar-bytes = sym (ap scalar_in whole)
-
-  pub filler-bytes : (zeroed 1 && (zeroed 4 && (zeroed 5 && (zeroed 6 && zeroed 7)))) ≡ unfilled part
+  -- the second filler is compared with zeros
+  pub fillers : (second : Bool) → second ≡ pointwise eqb (take 4 (drop 4 part)) (replicate 4 0) → (eqb (get_or part 1 0) 0 && second) ≡ unfilled part
   unfolding unfilled
-  filler-bytes =
-      ap (λ (b : Bool). zeroed 1 && (zeroed 4 && (zeroed 5 && (zeroed 6 && b)))) (sym (and-true (zeroed 7))) ∙ sym (ap unfilled whole)
+  fillers second f =
+      let first = eqb (get_or part 1 0) 0 in
+      let whole : part ≡ values_below 16 (λ i. get_or part i 0) = places 16 part e in
+      ap (λ (b : Bool). first && b) f
+      ∙ ap (λ (l : List ℕ). first && pointwise eqb (take 4 (drop 4 l)) (replicate 4 0)) whole
+      ∙ sym (ap (λ (l : List ℕ). first && all_zero (take 4 (drop 4 l))) whole)
 
--- ---- the loop over filler bytes
-pub unfilled-starts : (records : List ℕ) → true ≡ all_unfilled 0 records
+-- ---- the fillers of all records
+last-chunk : (p : List ℕ → Bool) (n m : ℕ) (l : List ℕ)
+    → list_all p (first_chunks n (suc m) l) ≡ (list_all p (first_chunks n m l) && p (take n (drop (m * n) l)))
+last-chunk p n zero l = rw (zero-mul n) (and-true (p (take n l)))
+last-chunk p n (suc m) l =
+    ap (λ (b : Bool). p (take n l) && b) (last-chunk p n m (drop n l))
+    ∙ sym (and_assoc (p (take n l)) (list_all p (first_chunks n m (drop n l))) (p (take n (drop (m * n) (drop n l)))))
+    ∙ ap (λ (t : List ℕ). (p (take n l) && list_all p (first_chunks n m (drop n l))) && p (take n t))
+    (drop-drop (m * n) n l ∙ ap (λ (i : ℕ). drop i l) (add_comm n (m * n) ∙ sym (suc-mul m n)))
+
+pub fillers-of : (n : ℕ) (records : List ℕ) → list_all unfilled (first_chunks 16 n records) ≡ all_unfilled n records
 unfolding all_unfilled
-unfilled-starts records = refl
-
-pub unfilled-turns : (records : List ℕ) (k : ℕ) (all one : Bool) → all ≡ all_unfilled k records
-    → one ≡ unfilled (take (k * 16 + 16 - k * 16) (drop (k * 16) records)) → (all && one) ≡ all_unfilled (k + 1) records
-unfolding all_unfilled
-unfilled-turns records k all one e f = rw (e, part-is unfilled records k one f, add-one k)
-
-pub unfilled-ends : (records : List ℕ) (k n : ℕ) (all : Bool) → k ≤ n → n ≤ k → all ≡ all_unfilled k records → all ≡ all_unfilled n records
-unfilled-ends records k n all h h' e = let q : k ≡ n = omega arith in rw q at e
+fillers-of zero records = refl
+fillers-of (suc n) records = last-chunk unfilled 16 n records ∙ ap (λ (b : Bool). b && unfilled (record_at records n)) (fillers-of n records)
 
 -- ---- the loop that takes the records apart
 pub filled-starts : (f : ℕ → ℕ) (l : List ℕ) → l ≡ filled 0 f l

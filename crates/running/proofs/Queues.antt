@@ -1,5 +1,6 @@
 -- The run of the records, and of an input. Assumes nothing.
-use mathlib.Core.Bool.{Bool, true, false, not, ◌&&◌}
+use Rattle.std.specs.Prelude.{Err}
+use mathlib.Core.Bool.{Bool, true, false, ◌&&◌, and_assoc}
 use mathlib.Core.Path.{◌≡◌, refl, sym, ap, ◌∙◌}
 use mathlib.Core.List.{List}
 use Prim.Native.Nat.{ℕ, ◌-◌, ◌*◌, ◌/◌, ◌%◌, ◌≤◌}
@@ -7,41 +8,44 @@ use native.Mathlib.Omega.{arith}
 use lib.Dec.{leb, ltb, eqb}
 use lib.ListN.{length, take, drop, length-drop, drop_of_length-le}
 use lib.Seq.{take_all, take-length, drop-length, length-take-le}
-use borrow.Author.Tests.{not-true, not-false, leb-true, ltb-true}
+use borrow.Author.Tests.{leb-true, ltb-true}
+use Rattle.std.specs.List.{list_all}
+use Rattle.std.specs.Simd.{first_chunks}
 use Rattle.numbers.specs.Choice.{pick}
 use Rattle.numbers.proofs.Tests.{and_left, pick-false}
-use Rattle.state.specs.declared.answer.Answer.TheVariants.{QueueRefused}
-use Rattle.state.specs.declared.answer.Ended.{Ended}
+use Rattle.state.specs.declared.answer.Refusal.TheVariants.{QueueRefused}
 use Rattle.state.specs.Answer.{is_done}
 use Rattle.state.specs.Marks.{Marked, marked, no_marks}
-use Rattle.state.specs.Outcome.{Outcome, outcome, refused}
-use Rattle.state.specs.State.{State, state}
-use Rattle.state.proofs.Refusing.{refuses-state}
+use Rattle.state.specs.Outcome.{Outcome, refused_state}
+use Rattle.state.specs.State.{State}
 use Rattle.saved.specs.Load.{accepted, loading}
 use Rattle.saved.proofs.Loading.{gives-state}
 use Rattle.saved.proofs.RoundTrip.{done-accepted, refused-at}
 use Rattle.touch.specs.Parts.{queue}
 use Rattle.queue.specs.Run.{queue_run}
-use Rattle.running.specs.Records.{opcode_at, control_word_at, scalar_at, all_unfilled, well_formed, each, queue_in}
+use Rattle.running.specs.Records.{opcode_at, control_word_at, scalar_at, unfilled, all_unfilled, well_formed, each, queue_in}
 use Rattle.running.specs.Working.{filled, file_size}
 use Rattle.running.specs.Runner.{file_in, records_in, unmarked, records_run, input_run}
-use Rattle.running.proofs.Parts.{filled-length, filled-each}
+use Rattle.running.proofs.Parts.{fillers-of, filled-length, filled-each}
 
-pub formed : (l : List ℕ) (b : Bool) → b ≡ all_unfilled (length l / 16) l → (leb (length l) 256 && (eqb (length l % 16) 0 && b)) ≡ well_formed l
+-- the three tests of the records
+pub formed : (bytes : List ℕ) (records : List (List ℕ)) (last : Bool) → records ≡ first_chunks 16 (length bytes / 16) bytes → last ≡ list_all unfilled records
+    → ((leb (length bytes) 256 && eqb (length bytes % 16) 0) && last) ≡ well_formed bytes
 unfolding well_formed
-formed l b e = ap (λ (t : Bool). leb (length l) 256 && (eqb (length l % 16) 0 && t)) e
+formed bytes records last e f =
+    ap (λ (b : Bool). (leb (length bytes) 256 && eqb (length bytes % 16) 0) && b) (f ∙ ap (list_all unfilled) e ∙ fillers-of (length bytes / 16) bytes)
+    ∙ and_assoc (leb (length bytes) 256) (eqb (length bytes % 16) 0) (all_unfilled (length bytes / 16) bytes)
 
 -- ---- the records on a state; `t` is what the test said
 module _ (bytes : List ℕ) (t : Bool) (e : t ≡ well_formed bytes) where
-  pub no-queue : (s : State) → not t ≡ true → (r : Ended) → outcome r.answer r.control ≡ refused QueueRefused s.control
-      → outcome r.answer (state s.elements r.control) ≡ records_run bytes s
+  pub no-queue : (s : State) → t ≡ false → refused_state (Err QueueRefused) s ≡ records_run bytes s
   unfolding records_run
-  no-queue s u r d = let g = sym e ∙ not-true t u in rw g (refuses-state s QueueRefused r d)
+  no-queue s u = let g = sym e ∙ u in rw g refl
 
-  module _ (u : not t ≡ false) where
+  module _ (u : t ≡ true) where
     short : length bytes ≤ 256
     unfolding well_formed
-    short = leb-true (length bytes) 256 (and_left (leb (length bytes) 256) _ (sym e ∙ not-false t u))
+    short = leb-true (length bytes) 256 (and_left (leb (length bytes) 256) _ (sym e ∙ u))
 
     pub few : (length bytes / 16 ≤ 16) × (length bytes / 16 * 16 ≤ length bytes)
     few = let h : length bytes ≤ 256 = short in (omega arith, omega arith)
@@ -71,7 +75,7 @@ module _ (bytes : List ℕ) (t : Bool) (e : t ≡ well_formed bytes) where
         → unmarked ran ≡ records_run bytes s
     unfolding records_run queue_in
     queue-ran s o o₀ w w₀ x x₀ ran ho hw hx eo ew ex r =
-        let g = sym e ∙ not-false t u in
+        let g = sym e ∙ u in
         rw (g, ← part-each (opcode_at bytes) o₀ o ho eo, ← part-each (control_word_at bytes) w₀ w hw ew, ← part-each (scalar_at bytes) x₀ x hx ex)
         (ap unmarked r)
 
@@ -100,19 +104,19 @@ module _ (input : List ℕ) (size : ℕ) (e : size ≡ file_size (length input))
       take_all (length input - size) (drop size input) (omega arith) ∙ records-drop
 
   -- what loading the file gave and left
-  module _ (old : State) (o : Outcome State) (l : o ≡ loading (take size input) old) (told : Bool) (is : told ≡ is_done o.answer) where
+  module _ (old : State) (o : Outcome State) (l : o ≡ loading (take size input) old) where
     loaded : o ≡ loading (file_in input) old
     loaded = l ∙ ap (λ (f : List ℕ). loading f old) file-part
 
-    pub input-ran : (ran : Outcome State) → length old.elements ≡ 1024 → not told ≡ false
+    pub input-ran : (ran : Outcome State) → length old.elements ≡ 1024 → is_done o.answer ≡ true
         → ran ≡ records_run (take (length input - size) (drop size input)) o.left → ran ≡ input_run input old
     unfolding input_run
     input-ran ran count u r =
-        let d = done-accepted (file_in input) old o loaded (sym is ∙ not-false told u) in
+        let d = done-accepted (file_in input) old o loaded u in
         rw (d.0, ← gives-state (file_in input) old.elements count, ← d.1, ← records-part) r
 
-    pub input-refused : not told ≡ true → o ≡ input_run input old
+    pub input-refused : is_done o.answer ≡ false → o ≡ input_run input old
     unfolding input_run
     input-refused u =
-        let d = refused-at (file_in input) old o loaded (sym is ∙ not-true told u) in
+        let d = refused-at (file_in input) old o loaded u in
         d.1 ∙ sym (pick-false (accepted (file_in input)) _ _ d.0)

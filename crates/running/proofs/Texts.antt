@@ -1,19 +1,18 @@
 -- The text of a run: the answer's line, then the listing where the part after it is lent. Assumes nothing.
-use mathlib.Core.Bool.{Bool, true, false, not}
+use Rattle.std.specs.Prelude.{Ok}
+use mathlib.Core.Bool.{Bool, true, false}
 use mathlib.Core.Path.{◌≡◌, refl, sym, ap, subst, ◌∙◌}
 use mathlib.Core.List.{List, [], ◌++◌, append-nil}
 use Prim.Native.Nat.{ℕ, ◌+◌, ◌-◌, ◌/◌, ◌^◌, ◌≤◌, ◌<◌}
 use native.Mathlib.Omega.{arith}
 use lib.ListN.{length, take, drop, length-append, length-drop, drop_of_length-le}
 use lib.Seq.{take_all, drop-drop}
-use borrow.Author.Tests.{not-true, not-false}
 use borrow.Rule.Slice.PartMut.{put_mid}
 use Rattle.numbers.specs.Choice.{pick}
 use Rattle.numbers.specs.Over.{over}
 use Rattle.numbers.proofs.Over.{part-over}
 use Rattle.numbers.proofs.Tests.{true-not-false}
-use Rattle.state.specs.declared.answer.Answer.{Answer}
-use Rattle.state.specs.declared.answer.Answer.TheVariants.{Done}
+use Rattle.state.specs.Answer.{Answer}
 use Rattle.state.specs.Answer.{beside_of, is_done}
 use Rattle.state.specs.Marks.{Marked, marked, no_marks}
 use Rattle.state.specs.Outcome.{Outcome, outcome, refused_marked}
@@ -46,7 +45,7 @@ unfolding queue_run
 queue-ranged q b = by (is_done (acceptance b.state.control q)) refl
   where
     by : (t : Bool) → is_done (acceptance b.state.control q) ≡ t
-        → Ranged (unmarked (pick t (outcome (Done 0) (ran_through q b)) (refused_marked (acceptance b.state.control q) b)))
+        → Ranged (unmarked (pick t (outcome (Ok 0) (ran_through q b)) (refused_marked (acceptance b.state.control q) b)))
     by true t e = run-in-range q b t
     by false t e = absurd (true-not-false (sym t ∙ e))
 
@@ -108,16 +107,25 @@ after-wrote l part at n x h w =
 -- ---- the text of an input
 
 -- a run, and the answer's line
-module _ (input t : List ℕ) (room : 25705 ≤ length t) (a : Answer) (s : State) (ran : outcome a s ≡ input_run input blank)
-    (line : Answer) (t₁ : List ℕ) (e : outcome line t₁ ≡ answer_listed a t) where
-  as-input : {t₂ x : List ℕ} {k : ℕ} → Wrote t t₂ 0 k x → x ≡ text_of (outcome a s) → outcome (Done k) t₂ ≡ input_printed input t
-  as-input {x = x} w f = wrote-printed 25705 x t room w ∙ ap (λ (y : List ℕ). printed 25705 y t) (f ∙ ap text_of ran)
+module _ (input t : List ℕ) (room : 25705 ≤ length t) (a : Answer) (s : State) (answers : a ≡ (input_run input blank).answer)
+    (leaves : is_done a ≡ true → s ≡ (input_run input blank).left) (line : Answer) (t₁ : List ℕ) (e : outcome line t₁ ≡ answer_listed a t) where
+  same-text : text_of (outcome a s) ≡ text_of (input_run input blank)
+  unfolding text_of
+  same-text = by (is_done a) refl
+    where
+      by : (b : Bool) → is_done a ≡ b
+          → (answer_line a ++ pick (is_done a) (listing s) []) ≡ (answer_line (input_run input blank).answer
+          ++ pick (is_done (input_run input blank).answer) (listing (input_run input blank).left) [])
+      by true d = rw (← answers, d, leaves d) refl
+      by false d = rw (← answers, d) refl
+
+  as-input : {t₂ x : List ℕ} {k : ℕ} → Wrote t t₂ 0 k x → x ≡ text_of (outcome a s) → outcome (Ok k) t₂ ≡ input_printed input t
+  as-input {x = x} w f = wrote-printed 25705 x t room w ∙ ap (λ (y : List ℕ). printed 25705 y t) (f ∙ same-text)
 
   -- the line alone, after a refusal
-  pub refused-text : (told : Bool) → told ≡ is_done a → not told ≡ true → outcome line t₁ ≡ input_printed input t
+  pub refused-text : is_done a ≡ false → outcome line t₁ ≡ input_printed input t
   unfolding text_of
-  refused-text told so u =
-      let z : is_done a ≡ false = sym so ∙ not-true told u in
+  refused-text z =
       let w = printed-wrote 42 (answer_line a) t line t₁ e (beside_of line) refl (omega arith) in
       e
       ∙ sym (wrote-printed 42 (answer_line a) t (omega arith) w)
@@ -137,14 +145,11 @@ module _ (input t : List ℕ) (room : 25705 ≤ length t) (a : Answer) (s : Stat
     at-within = let h = line-short in omega arith
 
     -- and the listing of the state after a run that is done
-    module _ (told : Bool) (so : told ≡ is_done a) (u : not told ≡ false) where
-      is-done : is_done a ≡ true
-      is-done = sym so ∙ not-false told u
-
+    module _ (is-done : is_done a ≡ true) where
       ranged : in_range s.control ≡ true
       ranged =
-          subst (λ (o : Outcome State). in_range o.left.control ≡ true) (sym ran)
-          (input-ranged input blank (subst (λ (o : Outcome State). is_done o.answer ≡ true) ran is-done))
+          subst (λ (x : State). in_range x.control ≡ true) (sym (leaves is-done))
+          (input-ranged input blank (ap is_done (sym answers) ∙ is-done))
 
       module _ (after : Answer) (part : List ℕ) (f : outcome after part ≡ state_listed s (take (length t₁ - at) (drop at t₁)))
           (k : ℕ) (is' : k ≡ beside_of after) where
@@ -158,7 +163,7 @@ module _ (input t : List ℕ) (room : 25705 ≤ length t) (a : Answer) (s : Stat
         pub ends-within : at + k < 2 ^ 64
         ends-within = let h = line-short in omega (arith, state-wrote.place, listing-length s ranged)
 
-        pub done-text : outcome (Done (at + k)) (put_mid at (length t₁ - at) t₁ part) ≡ input_printed input t
+        pub done-text : outcome (Ok (at + k)) (put_mid at (length t₁ - at) t₁ part) ≡ input_printed input t
         unfolding text_of
         done-text =
             let h = line-short in

@@ -1,7 +1,7 @@
 -- The runner: a saved file, then instruction records, run as one queue straight through; the answer and, on 0, the listing of the new state.
-use Rattle.std.specs.Prelude.{List, [], ◌++◌, ℕ, ◌/◌, length, take, drop, replicate}
+use Rattle.std.specs.Prelude.{List, [], ◌++◌, ℕ, ◌/◌, length, take, drop, replicate, Err}
 use Rattle.numbers.specs.Choice.{pick}
-use Rattle.state.specs.declared.answer.Answer.TheVariants.{QueueRefused, BadFile}
+use Rattle.state.specs.declared.answer.Refusal.TheVariants.{QueueRefused, BadFile}
 use Rattle.state.specs.Answer.{is_done}
 use Rattle.state.specs.Marks.{Marked, marked, no_marks}
 use Rattle.state.specs.Outcome.{Outcome, outcome, refused_state}
@@ -28,14 +28,14 @@ unfoldable pub records_run : List ℕ → State → Outcome State
 records_run records s =
     pick (well_formed records)
     (unmarked (queue_run (queue_in (length records / 16) records) (marked s no_marks)))
-    (refused_state QueueRefused s)
+    (refused_state (Err QueueRefused) s)
 
 -- a bad file is 10 with its first bad record; `old` is the state before
 unfoldable pub input_run : List ℕ → State → Outcome State
 input_run input old =
     pick (accepted (file_in input))
     (records_run (records_in input) (state_in (file_in input)))
-    (refused_state (BadFile (leading 1029 (file_in input))) old)
+    (refused_state (Err (BadFile (leading 1029 (file_in input)))) old)
 
 -- the state before anything is loaded
 abbrev pub none : Control

@@ -1,23 +1,22 @@
 -- The loops that judge the records and that fill the elements. Assumes nothing.
+use Rattle.std.specs.Prelude.{Ok, Err}
 use mathlib.Core.Bool.{Bool, true, false, ◌&&◌, and-false}
 use mathlib.Core.Path.{◌≡◌, refl, sym, ap, ◌∙◌}
 use mathlib.Core.Logic.{⊎_elim}
 use mathlib.Core.List.{List, [], ◌∷◌, ◌++◌, append-nil}
-use Prim.Native.Nat.{ℕ, zero, suc, ◌+◌, ◌*◌, ◌-◌, ◌≤◌, ◌<◌}
+use Prim.Native.Nat.{ℕ, zero, suc, ◌+◌, ◌*◌, ◌/◌, ◌≤◌, ◌<◌}
 use native.Mathlib.Nat.{eq-or-lt_of_le, le_of_suc-le-suc, not-suc-le-zero}
 use native.Mathlib.Numerals.{add-one}
 use native.Mathlib.Omega.{arith}
 use lib.Dec.{eqb, leb}
-use lib.ListN.{length, take, drop, set, get_or, length-append, drop_of_length-le}
+use lib.ListN.{length, drop, set, get_or, length-append, drop_of_length-le}
 use lib.Seq.{drop-cons, set_at, append_snoc}
 use borrow.Author.Tests.{eq-eqb, ne_eqb, le-leb, lt-leb, eqb-true, leb-true}
 use Rattle.numbers.specs.Choice.{pick}
 use Rattle.numbers.proofs.Tests.{and_left, and_right}
-use Rattle.state.specs.declared.answer.Answer.TheVariants.{Done, BadFile}
-use Rattle.state.specs.declared.answer.Ended.{Ended}
-use Rattle.state.specs.Outcome.{outcome, refused}
+use Rattle.state.specs.declared.answer.Refusal.TheVariants.{BadFile}
+use Rattle.state.specs.Outcome.{outcome, refused_state}
 use Rattle.state.specs.State.{State, state}
-use Rattle.state.proofs.Refusing.{refuses-state}
 use Rattle.state.specs.declared.Control.{Control}
 use Rattle.saved.specs.Load.{record_at, contents_in, good_part, good_record, leading, accepted, elements_in, control_in, first_contents, state_in, loading}
 
@@ -26,18 +25,13 @@ pub cut : (file : List ℕ) (k : ℕ) → length file < k * 16 + 16 → good_rec
 unfolding good_record
 cut file k h = ap (λ (b : Bool). b && good_part (record_at file k) k) (lt-leb (k * 16 + 16) (length file) h)
 
--- the part that is lent for record k is that record
-pub part-is : {A : Type 0} (f : List ℕ → A) (records : List ℕ) (k : ℕ) (v : A)
-    → v ≡ f (take (k * 16 + 16 - k * 16) (drop (k * 16) records)) → v ≡ f (record_at records k)
-part-is f records k v e = let n : k * 16 + 16 - k * 16 ≡ 16 = omega arith in rw n at e
-
 -- record k is there, so that its own bytes decide
-pub whole : (file : List ℕ) (k : ℕ) (b : Bool) → k * 16 + 16 ≤ length file
-    → b ≡ good_part (take (k * 16 + 16 - k * 16) (drop (k * 16) file)) k → good_record file k ≡ b
+pub whole : (file : List ℕ) (k : ℕ) (b : Bool) (part : List ℕ) → k * 16 + 16 ≤ length file → part ≡ record_at file k → b ≡ good_part part k
+    → good_record file k ≡ b
 unfolding good_record
-whole file k b h e =
+whole file k b part h e g =
     ap (λ (t : Bool). t && good_part (record_at file k) k) (le-leb (k * 16 + 16) (length file) h)
-    ∙ sym (part-is (λ (part : List ℕ). good_part part k) file k b e)
+    ∙ sym (g ∙ ap (λ (bytes : List ℕ). good_part bytes k) e)
 
 pub starts : (file : List ℕ) → leading 0 file ≡ 0
 unfolding leading
@@ -61,13 +55,13 @@ stops (suc n) file k h e g =
     rw ne i)
     (eq-or-lt_of_le (le_of_suc-le-suc h))
 
-pub ends : (file : List ℕ) (k : ℕ) → k ≤ 1029 → 1029 ≤ k → leading k file ≡ k → leading 1029 file ≡ k
-ends file k h h' e = let n : 1029 ≡ k = omega arith in rw n e
-
--- the contents of record k, lent as a part
-pub contents-part : (file : List ℕ) (k v : ℕ) → v ≡ contents_in (take (k * 16 + 16 - k * 16) (drop (k * 16) file))
-    → v ≡ contents_in (record_at file k)
-contents-part = part-is contents_in
+-- the k records that the file has are good, at most 1,029
+pub ends : (file : List ℕ) (k : ℕ) → k ≤ 1029 → k ≡ length file / 16 → leading k file ≡ k → k ≡ leading 1029 file
+ends file k h n e =
+    ⊎_elim
+    (λ (q : k ≡ 1029). rw q (rw q at (sym e)))
+    (λ (l : k < 1029). sym (stops 1029 file k l e (cut file k (omega arith))))
+    (eq-or-lt_of_le h)
 
 pub fill-starts : (file old : List ℕ) → old ≡ elements_in 0 file old
 unfolding elements_in
@@ -77,9 +71,6 @@ pub fill-turns : (file old now : List ℕ) (k v : ℕ) → now ≡ elements_in k
     → set now k v ≡ elements_in (k + 1) file old
 unfolding elements_in
 fill-turns file old now k v e ev = rw (e, ev, add-one k)
-
-pub fill-ends : (file old now : List ℕ) (k : ℕ) → k ≤ 1024 → 1024 ≤ k → now ≡ elements_in k file old → now ≡ elements_in 1024 file old
-fill-ends file old now k h h' e = let n : k ≡ 1024 = omega arith in rw n at e
 
 pub control-made : (file : List ℕ) (vlr vmr vcr vaer vpsr : ℕ) → vlr ≡ contents_in (record_at file 1024)
     → vmr ≡ contents_in (record_at file 1025) → vcr ≡ contents_in (record_at file 1026) → vaer ≡ contents_in (record_at file 1027)
@@ -125,14 +116,13 @@ module _ (file : List ℕ) (k : ℕ) (e : k ≡ leading 1029 file) where
       good-whole file 1028 (last-good 1028 file (sym e ∙ n)).1
 
   pub loads : (els old : List ℕ) (c c₀ : Control) → (eqb k 1029 && leb (length file) 16464) ≡ true → els ≡ elements_in 1024 file old → c ≡ control_in file
-      → outcome (Done 0) (state els c) ≡ loading file (state old c₀)
+      → outcome (Ok 0) (state els c) ≡ loading file (state old c₀)
   unfolding loading
   loads els old c c₀ t q p = let a = sym judged ∙ t in rw (q, p, a)
 
-  pub refuses : (s : State) (r : Ended) → (eqb k 1029 && leb (length file) 16464) ≡ false → outcome r.answer r.control ≡ refused (BadFile k) s.control
-      → outcome r.answer (state s.elements r.control) ≡ loading file s
+  pub refuses : (s : State) → (eqb k 1029 && leb (length file) 16464) ≡ false → refused_state (Err (BadFile k)) s ≡ loading file s
   unfolding loading
-  refuses s r t d = let a = sym judged ∙ t in rw (a, ← e) (refuses-state s (BadFile k) r d)
+  refuses s t = let a = sym judged ∙ t in rw (a, ← e) refl
 
 first-length : (n : ℕ) (file : List ℕ) → length (first_contents n file) ≡ n
 unfolding first_contents

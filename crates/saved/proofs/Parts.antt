@@ -12,8 +12,8 @@ use Rattle.numbers.specs.Bytes.{number_of, all_zero}
 use Rattle.saved.specs.Load.{number_in, filler_in, contents_in, contents_in_range, good_part}
 
 -- the last eight bytes of a record
-pub contents-bytes : (part : List ℕ) (v : ℕ) → length part ≡ 16 → v ≡ number_of (take 8 (drop 8 part)) → v ≡ contents_in part
-contents-bytes part v e f = f ∙ ap number_of (take_all 8 (drop 8 part) (simp length-drop (omega arith)))
+pub contents_bytes : (part : List ℕ) (v : ℕ) → length part ≡ 16 → v ≡ number_of (take 8 (drop 8 part)) → v ≡ contents_in part
+contents_bytes part v e f = f ∙ ap number_of (take_all 8 (drop 8 part) (simp length-drop (omega arith)))
 
 -- bytes that make zero are zeros
 zeros : (l : List ℕ) → all_zero l ≡ eqb (number_of l) 0

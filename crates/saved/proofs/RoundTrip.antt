@@ -1,4 +1,5 @@
 -- Loading what was saved gives that state back, and a file that loads is the one its state would save. Assumes nothing.
+use Rattle.std.specs.Prelude.{Ok, Err}
 use mathlib.Core.Bool.{Bool, true, false}
 use mathlib.Core.List.{List, ◌++◌}
 use mathlib.Core.Logic.{⊎_elim}
@@ -14,7 +15,7 @@ use Rattle.numbers.specs.Bytes.{Bytes, bytes_of, number_of, all_zero}
 use Rattle.numbers.specs.Choice.{pick}
 use Rattle.numbers.proofs.LittleEndian.{bytes_take, bytes_drop, number-back, bytes_back, zeros-back, number-below}
 use Rattle.numbers.proofs.Tests.{and_left, and_right, and_both, and-four, pick_true, pick-false, below_or_not}
-use Rattle.state.specs.declared.answer.Answer.TheVariants.{Done, BadFile}
+use Rattle.state.specs.declared.answer.Refusal.TheVariants.{BadFile}
 use Rattle.state.specs.Answer.{is_done}
 use Rattle.state.specs.Outcome.{Outcome, outcome, refused_state}
 use Rattle.state.specs.State.{State, state, in_range, length_in_range, vaer_in_range, vpsr_in_range}
@@ -206,11 +207,11 @@ module _ (s : State) (held : Held s) where
       (sym (saved-contents 1027 (omega arith))) (sym (saved-contents 1028 (omega arith))))
 
   -- loading what was saved gives that state back, whatever state was there
-  pub saved-loads : (old : State) → length old.elements ≡ 1024 → loading (file_of s) old ≡ outcome (Done 0) s
+  pub saved-loads : (old : State) → length old.elements ≡ 1024 → loading (file_of s) old ≡ outcome (Ok 0) s
   unfolding loading
   saved-loads old e =
       pick_true (accepted (file_of s)) _ _ saved-accepted
-      ∙ (λ i. outcome (Done 0) (state (saved-elements old.elements e i) (saved-control i)))
+      ∙ (λ i. outcome (Ok 0) (state (saved-elements old.elements e i) (saved-control i)))
 
 -- ---- a file that loads
 
@@ -303,7 +304,7 @@ judged : (file : List ℕ) (old : State) (o : Outcome State) → o ≡ loading f
 unfolding loading
 judged file old o e = ap (λ (p : Outcome State). is_done p.answer) e ∙ either (accepted file) _ _
   where
-    either : (b : Bool) (s : State) (k : ℕ) → is_done (pick b (outcome (Done 0) s) (refused_state (BadFile k) old)).answer ≡ b
+    either : (b : Bool) (s : State) (k : ℕ) → is_done (pick b (outcome (Ok 0) s) (refused_state (Err (BadFile k)) old)).answer ≡ b
     either true s k = refl
     either false s k = refl
 
@@ -315,35 +316,35 @@ done-accepted file old o e d =
 
 -- a file that is refused is not accepted, and its first bad record is named
 pub refused-at : (file : List ℕ) (old : State) (o : Outcome State) → o ≡ loading file old → is_done o.answer ≡ false
-    → (accepted file ≡ false) × (o ≡ refused_state (BadFile (leading 1029 file)) old)
+    → (accepted file ≡ false) × (o ≡ refused_state (Err (BadFile (leading 1029 file))) old)
 unfolding loading
 refused-at file old o e d = let a = sym (judged file old o e) ∙ d in (a, e ∙ pick-false (accepted file) _ _ a)
 
 -- a file that loads gives a state that the machine can hold
-pub loads-held : (file : List ℕ) (old s : State) → Bytes file → length old.elements ≡ 1024 → loading file old ≡ outcome (Done 0) s → Held s
+pub loads-held : (file : List ℕ) (old s : State) → Bytes file → length old.elements ≡ 1024 → loading file old ≡ outcome (Ok 0) s → Held s
 unfolding now
 loads-held file old s bytes count e =
-    let d = done-accepted file old (outcome (Done 0) s) (sym e) refl in
+    let d = done-accepted file old (outcome (Ok 0) s) (sym e) refl in
     subst Held (sym d.1) (now-held file old.elements count bytes d.0)
 
 -- a file that loads is the one its state would save
-pub loads-saves : (file : List ℕ) (old s : State) → Bytes file → length old.elements ≡ 1024 → loading file old ≡ outcome (Done 0) s → file_of s ≡ file
+pub loads-saves : (file : List ℕ) (old s : State) → Bytes file → length old.elements ≡ 1024 → loading file old ≡ outcome (Ok 0) s → file_of s ≡ file
 unfolding now
 loads-saves file old s bytes count e =
-    let d = done-accepted file old (outcome (Done 0) s) (sym e) refl in
+    let d = done-accepted file old (outcome (Ok 0) s) (sym e) refl in
     ap file_of d.1 ∙ now-file file old.elements count bytes d.0
 
 -- so saving a state that a file gave, into bytes with room for it, writes that file again
-pub saves-again : (file : List ℕ) (old s : State) (room : List ℕ) → Bytes file → length old.elements ≡ 1024 → loading file old ≡ outcome (Done 0) s
+pub saves-again : (file : List ℕ) (old s : State) (room : List ℕ) → Bytes file → length old.elements ≡ 1024 → loading file old ≡ outcome (Ok 0) s
     → 16464 ≤ length room
-    → saving s room ≡ outcome (Done 0) (file ++ drop 16464 room)
+    → saving s room ≡ outcome (Ok 0) (file ++ drop 16464 room)
 saves-again file old s room bytes count e h =
     let held = loads-held file old s bytes count e in
-    saves-done s room held.ranged h ∙ ap (λ (l : List ℕ). outcome (Done 0) (l ++ drop 16464 room)) (loads-saves file old s bytes count e)
+    saves-done s room held.ranged h ∙ ap (λ (l : List ℕ). outcome (Ok 0) (l ++ drop 16464 room)) (loads-saves file old s bytes count e)
 
 -- and loading the bytes that a save wrote gives the saved state
 pub loads-again : (s old : State) (room : List ℕ) → Held s → length old.elements ≡ 1024 → 16464 ≤ length room
-    → loading (take 16464 (saving s room).left) old ≡ outcome (Done 0) s
+    → loading (take 16464 (saving s room).left) old ≡ outcome (Ok 0) s
 loads-again s old room held count h =
     let w : take 16464 (saving s room).left ≡ file_of s =
     ap (λ (p : Outcome (List ℕ)). take 16464 p.left) (saves-done s room held.ranged h) ∙ take_at (file_of s) (drop 16464 room) 16464 (file-length s) in

@@ -1,4 +1,5 @@
 -- The loop that writes the records, and what saving comes to. Assumes nothing.
+use Rattle.std.specs.Prelude.{Ok, Err}
 use mathlib.Core.Bool.{Bool, true, false, not}
 use mathlib.Core.Path.{◌≡◌, refl, sym, ap, ◌∙◌}
 use mathlib.Core.List.{List, ◌++◌}
@@ -10,7 +11,7 @@ use borrow.Author.Tests.{not-true, not-false, le-leb, lt-leb}
 use borrow.Rule.Slice.PartMut.{put_mid}
 use Rattle.numbers.specs.Over.{over}
 use Rattle.numbers.proofs.Over.{over-over, part-over, length_over}
-use Rattle.state.specs.declared.answer.Answer.TheVariants.{Done, BadFile, OutOfRange}
+use Rattle.state.specs.declared.answer.Refusal.TheVariants.{BadFile, OutOfRange}
 use Rattle.state.specs.Outcome.{outcome}
 use Rattle.state.specs.State.{State, in_range}
 use Rattle.saved.specs.File.{contents_of, record_bytes, records, file_of}
@@ -64,22 +65,22 @@ file-length s = records-length 1029 s
 
 -- a state in range is saved wherever there is room
 pub saves-done : (s : State) (bytes : List ℕ) → in_range s.control ≡ true → 16464 ≤ length bytes
-    → saving s bytes ≡ outcome (Done 0) (file_of s ++ drop 16464 bytes)
+    → saving s bytes ≡ outcome (Ok 0) (file_of s ++ drop 16464 bytes)
 unfolding saving
 saves-done s bytes e h = let l = le-leb 16464 (length bytes) h in rw (e, l)
 
 -- The answers. `fit` is what the range test said.
 module _ (s : State) (bytes : List ℕ) (fit : Bool) (e : fit ≡ in_range s.control) where
-  pub refused : not fit ≡ true → outcome OutOfRange bytes ≡ saving s bytes
+  pub refused : not fit ≡ true → outcome (Err OutOfRange) bytes ≡ saving s bytes
   unfolding saving
   refused t = let r = sym e ∙ not-true fit t in rw r
 
-  pub no_room : not fit ≡ false → length bytes < 16464 → outcome (BadFile (length bytes / 16)) bytes ≡ saving s bytes
+  pub no_room : not fit ≡ false → length bytes < 16464 → outcome (Err (BadFile (length bytes / 16))) bytes ≡ saving s bytes
   unfolding saving
   no_room t h = let r = sym e ∙ not-false fit t in let l = lt-leb 16464 (length bytes) h in rw (r, l)
 
-  pub written : (after : List ℕ) → not fit ≡ false → 16464 ≤ length bytes → after ≡ over bytes 0 (file_of s) → outcome (Done 0) after ≡ saving s bytes
+  pub written : (after : List ℕ) → not fit ≡ false → 16464 ≤ length bytes → after ≡ over bytes 0 (file_of s) → outcome (Ok 0) after ≡ saving s bytes
   written after t h w =
       let n : 0 + length (file_of s) ≡ 16464 = omega (arith, file-length s) in
-      ap (outcome (Done 0)) (w ∙ ap (λ (m : ℕ). file_of s ++ drop m bytes) n)
+      ap (outcome (Ok 0)) (w ∙ ap (λ (m : ℕ). file_of s ++ drop m bytes) n)
       ∙ sym (saves-done s bytes (sym e ∙ not-false fit t) h)

@@ -1,9 +1,9 @@
 -- Document 01, "Saved state and readings": a file is refused at its first record that is missing, cut,
 -- out of range, misnumbered, with a filler byte not zero, or extra (1,029).
-use Rattle.std.specs.Prelude.{Bool, true, ◌&&◌, List, [], ◌∷◌, ◌++◌, ℕ, zero, suc, ◌+◌, ◌*◌, ltb, leb, eqb, length, take, drop, set}
+use Rattle.std.specs.Prelude.{Bool, true, ◌&&◌, List, [], ◌∷◌, ◌++◌, ℕ, zero, suc, ◌+◌, ◌*◌, ltb, leb, eqb, length, take, drop, set, Ok, Err}
 use Rattle.numbers.specs.Bytes.{number_of, all_zero}
 use Rattle.numbers.specs.Choice.{pick}
-use Rattle.state.specs.declared.answer.Answer.TheVariants.{Done, BadFile}
+use Rattle.state.specs.declared.answer.Refusal.TheVariants.{BadFile}
 use Rattle.state.specs.Answer.{is_done}
 use Rattle.state.specs.Marks.{Marked, marked, all_marks}
 use Rattle.state.specs.Outcome.{Outcome, outcome, refused_state}
@@ -79,8 +79,8 @@ state_in file = state (first_contents 1024 file) (control_in file)
 unfoldable pub loading : List ℕ → State → Outcome State
 loading file old =
     pick (accepted file)
-    (outcome (Done 0) (state (elements_in 1024 file old.elements) (control_in file)))
-    (refused_state (BadFile (leading 1029 file)) old)
+    (outcome (Ok 0) (state (elements_in 1024 file old.elements) (control_in file)))
+    (refused_state (Err (BadFile (leading 1029 file))) old)
 
 -- the same of a state with its marks. Document 02, "Which elements were written" (Q-3): "Loading a file sets all bits"; a refused one changes none
 unfoldable pub loading_marked : List ℕ → Marked → Outcome Marked

@@ -1,7 +1,7 @@
 -- Document 01, "Saved state and readings": saving.
-use Rattle.std.specs.Prelude.{List, ◌++◌, ℕ, ◌/◌, leb, length, drop}
+use Rattle.std.specs.Prelude.{List, ◌++◌, ℕ, ◌/◌, leb, length, drop, Ok, Err}
 use Rattle.numbers.specs.Choice.{pick}
-use Rattle.state.specs.declared.answer.Answer.TheVariants.{Done, BadFile, OutOfRange}
+use Rattle.state.specs.declared.answer.Refusal.TheVariants.{BadFile, OutOfRange}
 use Rattle.state.specs.Outcome.{Outcome, outcome, refused_bytes}
 use Rattle.state.specs.State.{State, in_range}
 use Rattle.saved.specs.File.{file_of}
@@ -12,6 +12,6 @@ unfoldable pub saving : State → List ℕ → Outcome (List ℕ)
 saving s bytes =
     pick (in_range s.control)
     (pick (leb 16464 (length bytes))
-    (outcome (Done 0) (file_of s ++ drop 16464 bytes))
-    (refused_bytes (BadFile (length bytes / 16)) bytes))
-    (refused_bytes OutOfRange bytes)
+    (outcome (Ok 0) (file_of s ++ drop 16464 bytes))
+    (refused_bytes (Err (BadFile (length bytes / 16))) bytes))
+    (refused_bytes (Err OutOfRange) bytes)

@@ -1,4 +1,3 @@
 -- Laws of the state.
 pub mod Marking
 pub mod Ranges
-pub mod Refusing

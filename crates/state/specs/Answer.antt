@@ -1,42 +1,51 @@
 -- Document 01, "Numbers given back": the number of each answer, and what stands beside it.
-use Rattle.std.specs.Prelude.{Bool, ℕ, eqb}
-use Rattle.state.specs.declared.answer.Answer.{Answer}
-use Rattle.state.specs.declared.answer.Answer.TheVariants.{Done, ReservedOpcode, ReservedControlWord, Disabled, WindowRefused, Misaligned}
-use Rattle.state.specs.declared.answer.Answer.TheVariants.{OutsideWindow, MemoryOpcode, QueueRefused, OrderRefused, BadFile, ValueRefused}
-use Rattle.state.specs.declared.answer.Answer.TheVariants.{OutOfRange, NoSuchField}
+use Rattle.std.specs.Prelude.{Bool, true, false, ℕ, Result, Ok, Err}
+use Rattle.state.specs.declared.answer.Refusal.{Refusal}
+use Rattle.state.specs.declared.answer.Refusal.TheVariants.{ReservedOpcode, ReservedControlWord, Disabled, WindowRefused, Misaligned}
+use Rattle.state.specs.declared.answer.Refusal.TheVariants.{OutsideWindow, MemoryOpcode, QueueRefused, OrderRefused, BadFile, ValueRefused}
+use Rattle.state.specs.declared.answer.Refusal.TheVariants.{OutOfRange, NoSuchField}
+
+-- done, with what was read, 0 where nothing is; or refused
+abbrev pub Answer : Type 0
+Answer = Result ℕ Refusal
+
+abbrev pub refusal_number : Refusal → ℕ
+refusal_number (ReservedOpcode position) = 1
+refusal_number (ReservedControlWord position) = 2
+refusal_number Disabled = 3
+refusal_number WindowRefused = 4
+refusal_number (Misaligned element) = 5
+refusal_number (OutsideWindow element) = 6
+refusal_number (MemoryOpcode position) = 7
+refusal_number QueueRefused = 8
+refusal_number (OrderRefused position) = 9
+refusal_number (BadFile record_number) = 10
+refusal_number ValueRefused = 11
+refusal_number OutOfRange = 12
+refusal_number NoSuchField = 13
+
+abbrev pub refusal_beside : Refusal → ℕ
+refusal_beside (ReservedOpcode position) = position
+refusal_beside (ReservedControlWord position) = position
+refusal_beside Disabled = 0
+refusal_beside WindowRefused = 0
+refusal_beside (Misaligned element) = element
+refusal_beside (OutsideWindow element) = element
+refusal_beside (MemoryOpcode position) = position
+refusal_beside QueueRefused = 0
+refusal_beside (OrderRefused position) = position
+refusal_beside (BadFile record_number) = record_number
+refusal_beside ValueRefused = 0
+refusal_beside OutOfRange = 0
+refusal_beside NoSuchField = 0
 
 abbrev pub number_of : Answer → ℕ
-number_of (Done value) = 0
-number_of (ReservedOpcode position) = 1
-number_of (ReservedControlWord position) = 2
-number_of Disabled = 3
-number_of WindowRefused = 4
-number_of (Misaligned element) = 5
-number_of (OutsideWindow element) = 6
-number_of (MemoryOpcode position) = 7
-number_of QueueRefused = 8
-number_of (OrderRefused position) = 9
-number_of (BadFile record_number) = 10
-number_of ValueRefused = 11
-number_of OutOfRange = 12
-number_of NoSuchField = 13
+number_of (Ok value) = 0
+number_of (Err refusal) = refusal_number refusal
 
--- done: what was read, 0 where nothing is
 abbrev pub beside_of : Answer → ℕ
-beside_of (Done value) = value
-beside_of (ReservedOpcode position) = position
-beside_of (ReservedControlWord position) = position
-beside_of Disabled = 0
-beside_of WindowRefused = 0
-beside_of (Misaligned element) = element
-beside_of (OutsideWindow element) = element
-beside_of (MemoryOpcode position) = position
-beside_of QueueRefused = 0
-beside_of (OrderRefused position) = position
-beside_of (BadFile record_number) = record_number
-beside_of ValueRefused = 0
-beside_of OutOfRange = 0
-beside_of NoSuchField = 0
+beside_of (Ok value) = value
+beside_of (Err refusal) = refusal_beside refusal
 
 -- as C gets it
 abbrev pub numbers : Answer → ℕ × ℕ
@@ -44,4 +53,10 @@ numbers a = (number_of a, beside_of a)
 
 -- nothing is refused
 abbrev pub is_done : Answer → Bool
-is_done a = eqb (number_of a) 0
+is_done (Ok value) = true
+is_done (Err refusal) = false
+
+-- what a call answers that gives a value, which is no number for its caller, or a refusal
+abbrev pub answered : {A : Type 0} → Result A Refusal → Answer
+answered (Ok x) = Ok 0
+answered (Err refusal) = Err refusal

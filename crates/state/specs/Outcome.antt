@@ -1,8 +1,8 @@
 -- What a call gives back, and what it leaves. Document 01, "Numbers given back": "A refusal changes no state and no memory."
-use Rattle.std.specs.Prelude.{List, ℕ}
-use Rattle.state.specs.declared.answer.Answer.{Answer}
+use Rattle.std.specs.Prelude.{List, ℕ, Result, Ok, Err}
 use Rattle.state.specs.declared.Control.{Control}
-use Rattle.state.specs.Answer.{numbers}
+use Rattle.state.specs.declared.answer.Refusal.{Refusal}
+use Rattle.state.specs.Answer.{Answer, numbers, answered}
 use Rattle.state.specs.Marks.{Marked, marked}
 use Rattle.state.specs.State.{State, state}
 
@@ -41,3 +41,11 @@ refused_bytes a bytes = outcome a bytes
 -- on a state with its marks and a window: its bytes stay
 abbrev pub refused_window : Answer → Marked → List ℕ → Outcome (Marked × List ℕ)
 refused_window a b w = outcome a ((refused_marked a b).left, w)
+
+-- ---- a call that alters a control record gives the new one, or why it is refused: the record that it leaves, and its answer with it
+abbrev pub control_left : Control → Result Control Refusal → Control
+control_left c (Ok next) = next
+control_left c (Err refusal) = after_refusal (Err refusal) c
+
+abbrev pub ended : Control → Result Control Refusal → Outcome Control
+ended c r = outcome (answered r) (control_left c r)

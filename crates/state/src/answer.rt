@@ -1,15 +1,13 @@
-// What a call gives back, and what a refused call leaves.
+// What a call gives back, and why one is refused.
 ghost use Rattle.std.specs.Prelude.{◌≡◌};
-ghost use Rattle.state.specs.Answer.{number_of, beside_of, is_done};
-ghost use Rattle.state.specs.Outcome.{outcome, refused as refused_of};
+ghost use Rattle.state.specs.Answer.{number_of, beside_of, refusal_number, refusal_beside};
+ghost use Rattle.state.specs.Outcome.{outcome, ended};
 
 use crate::Control;
 
-// Document 01, "Numbers given back", in the order of its numbers, each with what stands beside it.
+// Document 01, "Numbers given back", from 1 on, in the order of its numbers, each with what stands beside it.
 #[derive(Clone, Copy)]
-pub enum Answer {
-    // What was read, 0 where nothing is.
-    Done(u64),
+pub enum Refusal {
     // The queue position, 0 for a single call.
     ReservedOpcode(u64),
     ReservedControlWord(u64),
@@ -31,25 +29,60 @@ pub enum Answer {
     NoSuchField,
 }
 
-// The number of an answer.
+// What a call gives back: what was read, 0 where nothing is; or why it was refused.
+pub type Answer = Result<u64, Refusal>;
+
+impl Refusal {
+    // Its number.
+    pub fn number(self) -> u32
+        ensures { result ≡ refusal_number self }
+    {
+        match self {
+            Refusal::ReservedOpcode(_) => 1,
+            Refusal::ReservedControlWord(_) => 2,
+            Refusal::Disabled => 3,
+            Refusal::WindowRefused => 4,
+            Refusal::Misaligned(_) => 5,
+            Refusal::OutsideWindow(_) => 6,
+            Refusal::MemoryOpcode(_) => 7,
+            Refusal::QueueRefused => 8,
+            Refusal::OrderRefused(_) => 9,
+            Refusal::BadFile(_) => 10,
+            Refusal::ValueRefused => 11,
+            Refusal::OutOfRange => 12,
+            Refusal::NoSuchField => 13,
+        }
+    }
+
+    // What stands beside it.
+    pub fn beside(self) -> u64
+        ensures { result ≡ refusal_beside self }
+    {
+        match self {
+            Refusal::ReservedOpcode(position) => position,
+            Refusal::ReservedControlWord(position) => position,
+            Refusal::Disabled => 0,
+            Refusal::WindowRefused => 0,
+            Refusal::Misaligned(element) => element,
+            Refusal::OutsideWindow(element) => element,
+            Refusal::MemoryOpcode(position) => position,
+            Refusal::QueueRefused => 0,
+            Refusal::OrderRefused(position) => position,
+            Refusal::BadFile(record) => record,
+            Refusal::ValueRefused => 0,
+            Refusal::OutOfRange => 0,
+            Refusal::NoSuchField => 0,
+        }
+    }
+}
+
+// The number of an answer: 0 where nothing is refused.
 pub fn number(answer: Answer) -> u32
     ensures { result ≡ number_of answer }
 {
     match answer {
-        Answer::Done(_) => 0,
-        Answer::ReservedOpcode(_) => 1,
-        Answer::ReservedControlWord(_) => 2,
-        Answer::Disabled => 3,
-        Answer::WindowRefused => 4,
-        Answer::Misaligned(_) => 5,
-        Answer::OutsideWindow(_) => 6,
-        Answer::MemoryOpcode(_) => 7,
-        Answer::QueueRefused => 8,
-        Answer::OrderRefused(_) => 9,
-        Answer::BadFile(_) => 10,
-        Answer::ValueRefused => 11,
-        Answer::OutOfRange => 12,
-        Answer::NoSuchField => 13,
+        Ok(_) => 0,
+        Err(refusal) => refusal.number(),
     }
 }
 
@@ -58,40 +91,16 @@ pub fn beside(answer: Answer) -> u64
     ensures { result ≡ beside_of answer }
 {
     match answer {
-        Answer::Done(value) => value,
-        Answer::ReservedOpcode(position) => position,
-        Answer::ReservedControlWord(position) => position,
-        Answer::Disabled => 0,
-        Answer::WindowRefused => 0,
-        Answer::Misaligned(element) => element,
-        Answer::OutsideWindow(element) => element,
-        Answer::MemoryOpcode(position) => position,
-        Answer::QueueRefused => 0,
-        Answer::OrderRefused(position) => position,
-        Answer::BadFile(record) => record,
-        Answer::ValueRefused => 0,
-        Answer::OutOfRange => 0,
-        Answer::NoSuchField => 0,
+        Ok(value) => value,
+        Err(refusal) => refusal.beside(),
     }
 }
 
-// Nothing is refused.
-pub fn is_done(answer: Answer) -> bool
-    ensures { result ≡ is_done answer }
+// The end of a call that alters a control record: it is stored, and nothing is read. A refusal stores nothing.
+#[tactic(auto, unfolding(crate::specs::Outcome::after_refusal))]
+pub fn settle(after: Result<Control, Refusal>, control: &mut Control) -> Answer
+    ensures { outcome result control.new ≡ ended control.old after }
 {
-    number(answer) == 0
-}
-
-// How a call ends: its answer, and the control record after it.
-#[derive(Clone, Copy)]
-pub struct Ended {
-    pub answer: Answer,
-    pub control: Control,
-}
-
-// How a refused call ends.
-pub fn refused(answer: Answer, control: Control) -> Ended
-    ensures { outcome result.answer result.control ≡ refused_of answer control }
-{
-    Ended { answer, control }
+    *control = after?;
+    Ok(0)
 }

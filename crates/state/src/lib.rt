@@ -18,7 +18,7 @@ pub struct Element(pub usize);
 // The control registers, in the order of the saved records. Each is 64 bits wide, so that a caller
 // can hand over any number, and one that is out of range is refused instead of cut. C has the same record.
 #[repr(C)]
-#[derive(Clone, Copy)]
+#[derive(Clone, Copy, Default)]
 pub struct Control {
     pub vlr: u64,
     pub vmr: u64,

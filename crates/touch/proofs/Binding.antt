@@ -4,17 +4,21 @@ use mathlib.Core.Path.{◌≡◌, refl, sym, ap, ap₂, ◌∙◌, subst}
 use mathlib.Core.Logic.{inl}
 use mathlib.Core.Bool.{Bool, true, false, not, ◌&&◌, ◌||◌, and_comm, or_comm, or-true, or-false, and-false}
 use mathlib.Core.List.{List, [], ◌∷◌, ◌++◌}
-use Prim.Native.Nat.{ℕ, zero, suc, ◌<◌, ◌≤◌}
+use Prim.Native.Nat.{ℕ, ◌<◌, ◌≤◌}
 use native.Mathlib.Omega.{arith}
 use native.Mathlib.Decide.{ℕ_discrete}
 use lib.Dec.{T, eqb}
 use borrow.Author.Tests.{eq-eqb, ne_eqb}
 use Rattle.numbers.specs.Choice.{pick}
 use Rattle.opcodes.specs.declared.Instruction.{Instruction}
-use Rattle.opcodes.specs.Works.{Work, NoWork, When, never, in_vector_form, in_scalar_form, always, Writes, element, mask_bit, counted_elements, bytes}
+use Rattle.opcodes.specs.declared.works.Work.{Work}
+use Rattle.opcodes.specs.declared.works.Work.TheVariants.{NoWork, AddLongword, SubtractLongword, MultiplyLongword, CompareLongword, BitSet, ExclusiveOr}
+use Rattle.opcodes.specs.declared.works.Work.TheVariants.{BitClear, ShiftRight, ShiftLeft, AddF, SubtractF, MultiplyF, CompareF, Convert, Iota, Merge}
+use Rattle.opcodes.specs.declared.works.Work.TheVariants.{LoadLongword, LoadQuadword, StoreLongword, StoreQuadword, DivideF}
+use Rattle.opcodes.specs.Works.{When, never, in_vector_form, in_scalar_form, always, Writes, element, mask_bit, counted_elements, bytes}
 use Rattle.opcodes.specs.Works.{Row, row_of, is_mask_bit, is_counted}
 use Rattle.opcodes.specs.Works as works
-use Rattle.opcodes.specs.Opcodes.{Entry, table, work_in, work_from, work_at, row_at, writes_mask, in_one_step, ignores_moe, reads_va, reads_vb, reads_mask}
+use Rattle.opcodes.specs.Opcodes.{writes_mask, in_one_step, ignores_moe, reads_va, reads_vb, reads_mask}
 use Rattle.opcodes.specs.Working.{Below}
 use Rattle.machine.specs.Instruction.{step_count}
 use Rattle.order.specs.Order.{has}
@@ -25,22 +29,7 @@ use Rattle.order.proofs.Tests.{and_l, and_r, true-T}
 use Rattle.touch.proofs.Places.{mem-append-r, elements_same, has-append, has_one, has-place-if, has-below, has-not-below}
 use Rattle.touch.proofs.Places.{meets, meet_comm, meet_one, meet-append, meet-place-if, conflict-comm}
 
--- ---- a work of one step reads mask bits and no register, and writes no mask bit: by a test that is computed at each entry of the table
-
-module _ (f : Work → Bool) where
-  abbrev every : List Entry → Bool
-  every [] = f NoWork
-  every (e ∷ rest) = f (work_in e) && every rest
-
-  in_list : (l : List Entry) → T (every l) → (n : ℕ) → T (f (work_from l n))
-  in_list [] t n = t
-  in_list (e ∷ rest) t zero = and_l (f (work_in e)) (every rest) t
-  in_list (e ∷ rest) t (suc n) = in_list rest (and_r (f (work_in e)) (every rest) t) n
-
-  in_table : T (f NoWork) → T (every table) → (n : ℕ) → T (f (work_at n))
-  unfolding work_at
-  in_table s t zero = s
-  in_table s t (suc n) = in_list table t n
+-- ---- a work of one step reads mask bits and no register, and writes no mask bit: by its row
 
 abbrev unread : When → Bool
 unread never = true
@@ -57,9 +46,30 @@ unread-is always s t = absurd t
 abbrev by_mask_alone : Row → Bool
 by_mask_alone r = unread r.va && (unread r.vb && not r.obeys_moe)
 
-of-one-step : (n : ℕ) → T (not (is_counted (row_at n).writes) || by_mask_alone (row_at n))
-unfolding row_at row_of
-of-one-step = in_table (λ (w : Work). not (is_counted (row_of w).writes) || by_mask_alone (row_of w)) tt tt
+of-one-step : (w : Work) → T (not (is_counted (row_of w).writes) || by_mask_alone (row_of w))
+unfolding row_of
+of-one-step NoWork = tt
+of-one-step AddLongword = tt
+of-one-step SubtractLongword = tt
+of-one-step MultiplyLongword = tt
+of-one-step CompareLongword = tt
+of-one-step BitSet = tt
+of-one-step ExclusiveOr = tt
+of-one-step BitClear = tt
+of-one-step ShiftRight = tt
+of-one-step ShiftLeft = tt
+of-one-step AddF = tt
+of-one-step SubtractF = tt
+of-one-step MultiplyF = tt
+of-one-step CompareF = tt
+of-one-step Convert = tt
+of-one-step Iota = tt
+of-one-step Merge = tt
+of-one-step LoadLongword = tt
+of-one-step LoadQuadword = tt
+of-one-step StoreLongword = tt
+of-one-step StoreQuadword = tt
+of-one-step DivideF = tt
 
 counts-no-bit : (w : Writes) → is_counted w ≡ true → is_mask_bit w ≡ false
 counts-no-bit element e = refl
@@ -68,15 +78,15 @@ counts-no-bit counted_elements e = refl
 counts-no-bit bytes e = refl
 
 module _ (a : Instruction) (e : in_one_step a ≡ true) where
-  alone : T (by_mask_alone (row_at a.work))
-  alone = subst (λ (t : Bool). T (not t || by_mask_alone (row_at a.work))) e (of-one-step a.work)
+  alone : T (by_mask_alone (row_of a.work))
+  alone = subst (λ (t : Bool). T (not t || by_mask_alone (row_of a.work))) e (of-one-step a.work)
 
   one-target : a.vc.0 ≡ target a
-  one-target = sym (ap (λ (t : Bool). pick t 16 a.vc.0) (counts-no-bit (row_at a.work).writes e))
+  one-target = sym (ap (λ (t : Bool). pick t 16 a.vc.0) (counts-no-bit (row_of a.work).writes e))
 
   one-reads : (s : ℕ) → reads_place a s ≡ eqb s 16
   one-reads s =
-      let row = row_at a.work in
+      let row = row_of a.work in
       let rest = and_r (unread row.va) _ alone in
       ap₂ (λ (x y : Bool). x && eqb s a.vb.0 || y && eqb s a.va.0 || reads_mask a && eqb s 16)
       (unread-is row.vb a.scalar (and_l (unread row.vb) _ rest)) (unread-is row.va a.scalar (and_l (unread row.va) _ alone))

@@ -13,7 +13,7 @@ use Rattle.numbers.specs.Choice.{pick}
 use Rattle.state.specs.Elements.{at, matches}
 use Rattle.state.specs.State.{place_of}
 use Rattle.opcodes.specs.declared.Instruction.{Instruction}
-use Rattle.opcodes.specs.Opcodes.{work_at, writes_mask, ignores_moe, reads_va, reads_vb, reads_mask}
+use Rattle.opcodes.specs.Opcodes.{writes_mask, ignores_moe, reads_va, reads_vb, reads_mask}
 use Rattle.opcodes.specs.ControlWord.{field_of}
 use Rattle.opcodes.specs.Working.{Below}
 use Rattle.element.specs.declared.Out.{Out}
@@ -91,7 +91,7 @@ module _ (n : ℕ) (ins : Instruction) (scalar i : ℕ) (regs : Below ins) (smal
     same_received : received ins scalar i r ≡ received ins scalar i r'
     unfolding received
     same_received =
-        handed (result_of (work_at ins.work) ins.exc (field_of ins))
+        handed (result_of ins.work ins.exc (field_of ins))
         (picked (ignores_moe ins) _ _ false (λ e. same-matches (ap (λ (t : Bool). ins.moe || t) e ∙ or-true ins.moe)))
         (ap (pick ins.scalar scalar) (picked (reads_va ins) _ _ 0 (λ e. same-element ins.va.0 regs.va (inl (reads-va ins i e)))))
         (picked (reads_vb ins) _ _ 0 (λ e. same-element ins.vb.0 regs.vb (inl (reads-vb ins i e))))

@@ -1,12 +1,12 @@
 -- The steps of a queue: which numbers they are, that they rise, what each touches, and the closed form of which must follow which.
 -- Assumes nothing.
+use Rattle.std.specs.Prelude.{Ok, Err}
 use mathlib.Core.Path.{◌≡◌, refl, ap}
 use mathlib.Core.Bool.{Bool, true, ◌&&◌}
 use Prim.Native.Nat.{ℕ, ◌*◌, ◌<◌, ◌≤◌}
 use native.Mathlib.Omega.{arith}
 use lib.Dec.{T, lit<, ltb, ltb→lt, lt→ltb}
-use Rattle.opcodes.specs.declared.Decoded.{Decoded}
-use Rattle.opcodes.specs.declared.Decoded.TheVariants.{Accepted, Refused}
+use Rattle.opcodes.specs.Decoding.{Decoded}
 use Rattle.opcodes.specs.Working.{Below}
 use Rattle.opcodes.proofs.Passed.{passed}
 use Rattle.machine.specs.Instruction.{step_count}
@@ -27,8 +27,8 @@ unfolding instruction_at
 at-below q k = go (decoded_in q k) refl
   where
     go : (d : Decoded) → decoded_in q k ≡ d → Below (instruction_or placeholder d)
-    go (Refused a) e = record { va = lit< tt; vb = lit< tt; vc = lit< tt }
-    go (Accepted i) e = let p = passed true true k _ _ i e in record { va = p.va-below; vb = p.vb-below; vc = p.vc-below }
+    go (Err a) e = record { va = lit< tt; vb = lit< tt; vc = lit< tt }
+    go (Ok i) e = let p = passed true true k _ _ i e in record { va = p.va-below; vb = p.vb-below; vc = p.vc-below }
 
 -- ---- the steps
 

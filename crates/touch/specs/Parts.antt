@@ -1,10 +1,9 @@
 -- Document 01, "Queues and orders": a queue by its parts, and the instruction at each of its positions.
-use Rattle.std.specs.Prelude.{true, false, List, ℕ, length, get_or}
+use Rattle.std.specs.Prelude.{true, false, List, ℕ, length, get_or, Ok, Err}
 use Rattle.opcodes.specs.declared.Instruction.{Instruction}
-use Rattle.opcodes.specs.declared.Decoded.{Decoded}
-use Rattle.opcodes.specs.declared.Decoded.TheVariants.{Accepted, Refused}
+use Rattle.opcodes.specs.declared.works.Work.TheVariants.{AddLongword}
 use Rattle.opcodes.specs.ControlWord.{instruction_of}
-use Rattle.opcodes.specs.Decoding.{decoded_of}
+use Rattle.opcodes.specs.Decoding.{Decoded, decoded_of}
 
 -- the parts of a queue: opcodes, control words, scalars
 pub record Queue : Type 0 where
@@ -24,12 +23,12 @@ decoded_in q k = decoded_of true true k (get_or q.opcodes k 0) (get_or q.control
 
 -- the instruction that stands for a refused one, which no accepted queue has
 abbrev pub placeholder : Instruction
-placeholder = instruction_of 1 false 0
+placeholder = instruction_of AddLongword false 0
 
 -- the refusals come at no position of an accepted queue
 abbrev pub instruction_or : Instruction → Decoded → Instruction
-instruction_or other (Refused a) = other
-instruction_or other (Accepted i) = i
+instruction_or other (Err refusal) = other
+instruction_or other (Ok i) = i
 
 -- the instruction at a position
 unfoldable pub instruction_at : Queue → ℕ → Instruction

@@ -3,4 +3,4 @@ use Rattle.floating.proofs.Shown.{shows-longword}
 use Rattle.floating.proofs.read_longword.Goals as goal
 
 pub returns : goal.returns
-returns c = shows-longword c.args.word c.signed.result c.ranges.word c.signed.ensures
+returns c = shows-longword c.args.word c.cast_signed.result c.ranges.word c.cast_signed.ensures

@@ -1,5 +1,5 @@
 -- `floating_c::join` meets its contract: the value, and the types above it. Assumes nothing.
-use native.Mathlib.Omega.{arith}
+use Rattle.std.proofs.Common.{arith}
 use Rattle.floating_c.specs.Given.{joined}
 use Rattle.floating_c.proofs.join.Goals as goal
 

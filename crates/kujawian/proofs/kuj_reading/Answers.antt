@@ -2,11 +2,11 @@
 use Rattle.kujawian.proofs.Fields.{field-shown, field-refused}
 use Rattle.kujawian.proofs.kuj_reading.Goals as goal
 
-pub returns-in-Shown : goal.returns-in-Shown
-returns-in-Shown c =
-    field-shown _ _ _ c.of.ensures _ _ _ _ c.reading-field.ensures _ _ _ c.in-Shown.reading c.in-Shown.is
+pub returns-in-Ok : goal.returns-in-Ok
+returns-in-Ok c =
+    field-shown _ _ _ c.of.ensures _ _ _ _ c.reading-field.ensures _ _ _ c.in-Ok.reading c.in-Ok.is
     c.give.ensures _ _ c.kind_of.ensures c.bits_of.ensures
 
-pub returns-in-Refused : goal.returns-in-Refused
-returns-in-Refused c =
-    field-refused _ _ _ c.of.ensures _ _ _ _ c.reading-field.ensures _ _ _ c.in-Refused.given c.in-Refused.is c.give-in-Refused.ensures
+pub returns-in-Err : goal.returns-in-Err
+returns-in-Err c =
+    field-refused _ _ _ c.of.ensures _ _ _ _ c.reading-field.ensures _ _ _ c.in-Err.refusal c.in-Err.is c.give-in-Err.ensures

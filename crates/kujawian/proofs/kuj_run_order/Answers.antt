@@ -1,14 +1,12 @@
--- `kuj_run_order` meets its contract: a queue by its list of steps, straight and walked, the five numbers stored back. Assumes nothing.
-use Rattle.kujawian.specs.Face.{left}
+-- `kuj_run_order` meets its contract: the claim of the record is that of the five numbers. Assumes nothing.
+use Rattle.std.proofs.Common.{ap}
+use Rattle.state.specs.Answer.{answered}
+use Rattle.state.specs.Outcome.{Outcome}
 use Rattle.kujawian.proofs.Stored.{list-claim}
 use Rattle.kujawian.proofs.kuj_run_order.Goals as goal
 
-pub returns : goal.returns
-unfolding left
-returns c =
-    record {
-      straight = rw (c.give.ensures, c.store.ensures, ← c.of.ensures) (rw (← c.run_order-after.ensures.straight));
-      walked = rw (c.give.ensures, c.store.ensures, ← c.of.ensures) (rw (← c.run_order-after.ensures.walked));
-      demand = λ five. list-claim _ _ _ c.run_order-after.result.answer _ _ _ _ _ _ _ five c.give.ensures c.store.ensures
-          (rw c.of.ensures at c.run_order-after.ensures.demand);
-    }
+pub returns-clause-demand : goal.returns-clause-demand
+returns-clause-demand c five =
+    list-claim _ _ _ (answered c.run_order-after.result) _ _ _ _ _ _ _ five (rw (← ap (λ (o : Outcome _). o.answer) c.settle.ensures) c.give.ensures)
+    (ap (λ (o : Outcome _). o.left) c.settle.ensures)
+    (rw c.of.ensures at c.run_order-after.ensures.demand)

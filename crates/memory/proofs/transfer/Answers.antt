@@ -1,24 +1,18 @@
 -- `transfer` meets its contract. Assumes nothing.
-use Rattle.std.proofs.Common.{arith, rules}
+use Rattle.std.proofs.Common.{length, sym, ◌∙◌, arith}
 use Rattle.state.specs.Marks.{marked}
 use Rattle.state.specs.State.{state}
-use Rattle.memory.proofs.Accessing.{refuses, ends-in-time, done}
+use Rattle.memory.proofs.Accessing.{done}
+use Rattle.memory.proofs.Windows.{ends-within}
 use Rattle.memory.proofs.transfer.Goals as goal
 
-pub returns-then-not-allowed : goal.returns-then-not-allowed
-returns-then-not-allowed c =
-    let args = c.args in
-    refuses (marked (state args.elements.now args.control) args.marks.now) args.instruction args.base args.stride args.window.now
-    args.origin _
-    c.allowed.ensures c.if-not-allowed.true c.refused.result c.refused.ensures
-
-pub all_or_none-requires : goal.all_or_none-requires
-all_or_none-requires c =
-    let args = c.args in
-    let h = ends-in-time (marked (state args.elements.now args.control) args.marks.now) args.instruction args.base args.stride
-    args.window.now
-    args.origin _ c.allowed.ensures c.if-not-allowed.false in
-    (search rules, search rules, search rules, c.operated-which.ensures.small, omega arith)
+pub invariant_of-access-2-clause-fits : goal.invariant_of-access-2-clause-fits
+invariant_of-access-2-clause-fits c =
+    let h = ends-within (length c.args.window.now) c.args.origin (sym c.allowed.ensures ∙ c.if-not-allowed.false) in omega arith
 
 pub returns : goal.returns
-returns c = search (done, rules)
+returns c =
+    let args = c.args in
+    done (marked (state args.elements.now args.control) args.marks.now) args.instruction args.base args.stride args.window.now args.origin
+    (sym c.allowed.ensures ∙ c.if-not-allowed.false) _ (omega arith) (omega arith) _ c.operated.ensures _ _ c.is_store.ensures c.is_quadword.ensures _
+    (rw (c.from.ensures, c.from-2.ensures) at c.all_or_none.ensures)

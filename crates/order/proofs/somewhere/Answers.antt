@@ -1,17 +1,16 @@
--- `somewhere` meets its contract: after e turns it has what the first e elements wait for. Assumes nothing.
-use mathlib.Core.Path.{◌≡◌, refl, ap, ◌∙◌}
+-- `somewhere` meets its contract: the sets are joined one after the other. Assumes nothing.
+use mathlib.Core.Path.{◌≡◌, ◌∙◌, ap, sym}
 use native.Mathlib.Omega.{arith}
 use borrow.Author.Rules.{rules}
-use Rattle.order.specs.SetsWorking.{somewhere}
-use Rattle.order.proofs.Marking.{somewhere-more}
+use lib.Bits.{bit_or}
+use lib.ListN.{length}
+use lib.Seq.{take-length}
+use Rattle.std.specs.List.{fold}
+use Rattle.order.proofs.Marking.{somewhere-joins}
 use Rattle.order.proofs.somewhere.Goals as goal
 
-pub loop-e-init : goal.loop-e-init
-unfolding somewhere
-loop-e-init c = (search rules, refl)
-
-pub loop-e-preserved : goal.loop-e-preserved
-loop-e-preserved c = (search rules, somewhere-more _ _ _ c.loop-e.invariant.1)
-
 pub returns : goal.returns
-returns c = let same : c.loop-e.e ≡ 64 = omega arith in c.loop-e.invariant.1 ∙ ap (somewhere _) same
+returns c =
+    let sets = c.args.sets.now in
+    let joined : c.fold.result ≡ fold bit_or 0 sets = search rules in
+    joined ∙ ap (fold bit_or 0) (sym (take-length sets)) ∙ somewhere-joins sets (length sets) (omega arith)

@@ -1,25 +1,22 @@
 -- `run` meets its contract: a refusal changes nothing, and an accepted queue is run straight through. Assumes nothing.
-use mathlib.Core.Path.{sym, ◌∙◌}
-use Rattle.queue.proofs.Calls.{through-meets, run-refused, run-done}
+use Rattle.std.proofs.Common.{rules, refl}
+use Rattle.queue.proofs.Calls.{run-refused, run-done}
+use Rattle.queue.proofs.Preparing.{program-few, program-runs, begun-short}
 use Rattle.queue.proofs.run.Goals as goal
 
-pub returns-then-not-is_done : goal.returns-then-not-is_done
-returns-then-not-is_done c =
-    run-refused _ _ _ _ c.accept-accepted.result.answer c.accept-accepted.ensures.answered (sym c.is_done.ensures ∙ c.if-not-is_done.true)
-    c.refused.result c.refused.ensures
+pub returns-in_err-instructions : goal.returns-in_err-instructions
+returns-in_err-instructions c = search (run-refused, rules)
+
+pub invariant_of-program : goal.invariant_of-program
+invariant_of-program c =
+    let l = c.args.elements.now in let m = c.args.marks.now in let a = c.in_ok-instructions.ensures in
+    record { few = program-few _ l m _ _ a; runs = program-runs _ l m _ _ a }
 
 pub straight-progress-requires : goal.straight-progress-requires
 straight-progress-requires c =
-    let fine = sym c.is_done.ensures ∙ c.if-not-is_done.false in
-    let all =
-    through-meets _ c.args.elements.now c.args.marks.now _ _ c.accept-accepted.ensures.answered fine c.accept-accepted.result.program
-    (c.accept-accepted.ensures.decoded fine) _
-    c.begin.ensures in
-    record { sizes = all.0; runs = all.1 }
+    begun-short _ c.args.elements.now c.args.marks.now _ _ c.in_ok-instructions.ensures _ c.begin.ensures
 
 pub returns : goal.returns
 returns c =
-    let fine = sym c.is_done.ensures ∙ c.if-not-is_done.false in
-    run-done _ _ _ _ _ c.accept-accepted.ensures.answered fine c.accept-accepted.result.program (c.accept-accepted.ensures.decoded fine) _ _ _ _ _
-    c.begin.ensures
-    c.end.ensures c.straight-progress.ensures
+    run-done _ _ _ _ _ c.in_ok-instructions.ensures.answered refl _ c.in_ok-instructions.ensures.decoded _ _ _ _ _ c.begin.ensures c.end.ensures
+    c.straight-progress.ensures

@@ -1,13 +1,8 @@
 -- `run_order` meets its contract: the loop binds each position of an accepted queue; a list that is not permitted is refused and nothing has changed; a
 -- permitted one is walked, and demand 3 says that its entries end where the straight run ends. Assumes nothing.
-use Prim.Native.Nat.{◌-◌}
-use lib.ListN.{length}
 use Rattle.touch.specs.Parts.{queue}
 use Rattle.queue.proofs.Preparing.{Prepared}
 use Rattle.queue.proofs.run_order.Given as goal
 
 abbrev pub invariant-loop-k : goal.invariant-loop-k
-invariant-loop-k l = Prepared (queue l.opcodes l.cntrls l.scalars) l.bound l.readers l.writers l.k
-
-abbrev pub decreases-loop-k : goal.decreases-loop-k
-decreases-loop-k l = length l.opcodes - l.k
+invariant-loop-k l = Prepared (queue l.opcodes l.cntrls l.scalars) l.bound l.tables.readers l.tables.writers l.k

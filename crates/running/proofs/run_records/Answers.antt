@@ -1,20 +1,14 @@
 -- `run_records` meets its contract. Assumes nothing.
-use mathlib.Core.Bool.{not}
-use mathlib.Core.Path.{ap}
-use Prim.Native.Nat.{ℕ}
+use Rattle.std.proofs.Common.{ℕ, rules}
 use lib.ListN.{length-replicate}
-use Rattle.state.specs.State.{state}
 use Rattle.running.proofs.Queues.{no-queue, few, part-within, part_length, queue-ran}
-use borrow.Author.Rules.{rules}
 use Rattle.running.proofs.run_records.Goals as goal
 
 pub returns-then-not-well_formed : goal.returns-then-not-well_formed
-returns-then-not-well_formed c =
-    no-queue _ _ c.well_formed-2.ensures (state _ _) (ap not c.if-not-well_formed.true) c.refused.result c.refused.ensures
+returns-then-not-well_formed c = search (no-queue, rules)
 
 pub take_apart-requires : goal.take_apart-requires
-take_apart-requires c =
-    few _ _ c.well_formed-2.ensures (ap not c.if-not-well_formed.false)
+take_apart-requires c = search (few, rules)
 
 pub slice_bounds-opcodes-end : goal.slice_bounds-opcodes-end
 slice_bounds-opcodes-end c = search (part-within, length-replicate {A = ℕ} 16 0, rules)
@@ -37,5 +31,5 @@ slice_bounds-run-end-3 c = search (part_length, length-replicate {A = ℕ} 16 0,
 pub returns : goal.returns
 returns c =
     let sixteen = length-replicate {A = ℕ} 16 0 in
-    queue-ran _ _ c.well_formed-2.ensures (ap not c.if-not-well_formed.false) _ _ _ _ _ _ _ _ sixteen sixteen sixteen
+    queue-ran _ _ c.well_formed-2.ensures c.if-not-well_formed.false _ _ _ _ _ _ _ _ sixteen sixteen sixteen
     c.take_apart.ensures.0 c.take_apart.ensures.1 c.take_apart.ensures.2 c.run.ensures

@@ -1,7 +1,8 @@
 -- `contents_at` meets its contract: the part that it lends is record k. Assumes nothing.
-use Rattle.saved.proofs.Loading.{contents-part}
-use borrow.Author.Rules.{rules}
+use Rattle.std.proofs.Common.{◌∙◌, ap, arith}
+use Rattle.numbers.proofs.Chunks.{chunk-of}
+use Rattle.saved.specs.Load.{contents_in}
 use Rattle.saved.proofs.contents_at.Goals as goal
 
 pub returns : goal.returns
-returns c = search (contents-part, rules)
+returns c = c.contents.ensures ∙ ap contents_in (chunk-of 16 _ _ _ _ (omega arith) c.as_chunks.ensures.front)

@@ -14,5 +14,4 @@ pub returns-then-k-file : goal.returns-then-k-file
 returns-then-k-file c = search (loads, rules)
 
 pub returns : goal.returns
-returns c =
-    refuses _ _ c.leading-k.ensures (state _ _) c.refused.result c.if-k-file.false c.refused.ensures
+returns c = refuses _ _ c.leading-k.ensures (state _ _) c.if-k-file.false

@@ -4,6 +4,3 @@ use Rattle.element.proofs.integer.multiply.Goals as goal
 
 pub place-requires : goal.place-requires
 place-requires c = rw c.product.ensures (low32-fits _)
-
-pub returns : goal.returns
-returns c = cc

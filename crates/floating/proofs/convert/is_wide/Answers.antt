@@ -5,4 +5,4 @@ use Rattle.floating.proofs.convert.is_wide.Goals as goal
 
 pub returns : goal.returns
 returns c =
-    ap (λ (z : ℕ). ltb (2147483647 + z) c.args.n) c.wide.ensures ∙ overflows-past c.args.s c.args.n (search rules)
+    ap (λ (z : ℕ). ltb (2147483647 + z) c.args.n) c.from.ensures ∙ overflows-past c.args.s c.args.n (search rules)

@@ -11,6 +11,6 @@ returns c =
     let a = c.args in
     let m = c.near_of in let e = c.zeros_of-z.ensures in
     let rounds = m.ensures.0 ∙ ap (λ (v : ℕ). near v (2 ^ (64 - F.bits))) c.raised.ensures in
-    c.judged-r.ensures
+    c.judged.ensures
     ∙ ap (answered a.exc)
     (placed-settled F 64 a.s a.x a.e a.down c.zeros_of-z.result m.result (lit< tt) (lit≤ tt) e.1 e.2 rounds)

@@ -9,6 +9,6 @@ pub returns : goal.returns
 returns c =
     let a = c.args in
     let m = c.nearest in
-    c.judged-r.ensures
+    c.judged.ensures
     ∙ ap (answered a.exc)
     (placed-here F (F.bits + 1) a.s a.x a.e a.down m.result (lit< tt) (lit≤ tt) (search rules) (search rules) m.ensures.0)

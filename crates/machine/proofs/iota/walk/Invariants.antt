@@ -2,8 +2,5 @@
 use Rattle.machine.proofs.IotaLaws.{Going}
 use Rattle.machine.proofs.iota.walk.Given as goal
 
-abbrev pub invariant-loop-left : goal.invariant-loop-left
-invariant-loop-left l = Going l.stride l.vc.0 l.which l.initial.elements l.left l.elements l.next
-
-abbrev pub decreases-loop-left : goal.decreases-loop-left
-decreases-loop-left l = l.left
+abbrev pub invariant-loop-i : goal.invariant-loop-i
+invariant-loop-i l = Going l.stride l.vc.0 l.which l.initial.elements l.i-iterator l.elements l.next

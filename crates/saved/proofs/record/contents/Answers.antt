@@ -1,7 +1,6 @@
 -- `contents` meets its contract. Assumes nothing.
-use Rattle.saved.proofs.Parts.{contents-bytes}
-use borrow.Author.Rules.{rules}
+use Rattle.saved.proofs.Parts.{contents_bytes}
 use Rattle.saved.proofs.record.contents.Goals as goal
 
 pub returns : goal.returns
-returns c = search (contents-bytes, rules)
+returns c = contents_bytes _ _ c.told-record c.quadword.ensures

@@ -1,2 +1,0 @@
--- What a refused write leaves.
-pub mod Kept

@@ -1,5 +1,0 @@
--- `read_vmr_high` meets its contract. Assumes nothing.
-use Rattle.control.proofs.read_vmr_high.Goals as goal
-
-pub returns : goal.returns
-returns c = cc

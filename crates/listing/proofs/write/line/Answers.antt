@@ -1,8 +1,0 @@
--- `line` meets its contract: its three writings follow one another. Assumes nothing.
-use native.Mathlib.Omega.{arith}
-use Rattle.listing.proofs.Writing.{line_wrote}
-use Rattle.listing.proofs.write.line.Goals as goal
-
-pub returns : goal.returns
-returns c =
-    line_wrote _ _ _ (omega arith) c.copy-after_start.ensures c.number-after_digits.ensures c.copy.ensures

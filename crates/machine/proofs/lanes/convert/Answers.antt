@@ -1,7 +1,0 @@
--- `convert` meets its contract: the element's conversion lands in vc. Assumes nothing.
-use Rattle.machine.proofs.LaneLoops.{lands}
-use Rattle.machine.proofs.lanes.convert.Goals as goal
-
-pub returns : goal.returns
-returns c =
-    lands _ _ _ _ _ _ _ _ _ c.vb_of-b.ensures c.vc_of-c.ensures c.converted.ensures c.land.ensures

@@ -1,7 +1,0 @@
--- `bits::lowest` meets its contract. Assumes nothing.
-use native.Mathlib.Omega.{arith}
-use lib.Count.{trailing_le}
-use Rattle.numbers.proofs.bits.lowest.Goals as goal
-
-pub overflow_cast-result : goal.overflow_cast-result
-overflow_cast-result c = record { fits = omega (arith, trailing_le 64 c.args.x) }

@@ -1,2 +1,0 @@
--- What the tests of a reading tell.
-pub mod Showing

@@ -1,8 +1,0 @@
--- `is_done` meets its contract: only done has the number 0. Assumes nothing.
-use mathlib.Core.Path.{ap}
-use Prim.Native.Nat.{ℕ}
-use lib.Dec.{eqb}
-use Rattle.state.proofs.answer.is_done.Goals as goal
-
-pub returns : goal.returns
-returns c = ap (λ (n : ℕ). eqb n 0) c.number.ensures
