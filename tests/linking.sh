@@ -1,7 +1,7 @@
 #!/bin/sh
 # What the archive needs and gives, for whoever links it: it gives exactly the header's calls, needs memset alone, keeps no data, takes NULL
 # for an empty slice, arrays aligned to their items, and at most 4,096 bytes of stack a call. The stack is counted in the machine code, along every
-# chain of calls, and the painted stack of real calls (tests/linking.c) is held to that.
+# chain of calls, and the painted stack of real calls (tests/linking.c) is held to that. No call takes more than docs/MANUAL.md says of it.
 #   tests/linking.sh [--facts]     --facts: prints each call's stack
 # KUJAWIAN_ARCHIVES names a folder that already holds libkujawian.a; else it is built.
 set -eu
@@ -40,11 +40,24 @@ status=0
 "$out/linking" >"$out/seen" || status=$?
 [ "$status" -eq 0 ] || { grep '^linking:' "$out/seen" || true; say "tests/linking.c ended with $status"; }
 
+# What the manual says of each call, in the words "at most N bytes for `kuj_a`, N for `kuj_b` and N for every other call".
+awk '/^\| stack \| at most / {
+    gsub(/,/, "")
+    for (k = 1; k < NF; k++) if ($k == "for") {
+        bytes = $(k - 1) == "bytes" ? $(k - 2) : $(k - 1)
+        if ($(k + 1) == "every") print "every", bytes
+        else if (match($(k + 1), /kuj_[a-z_]*/)) print substr($(k + 1), RSTART, RLENGTH), bytes
+    }
+}' docs/MANUAL.md >"$out/said"
+grep -q '^every [0-9]' "$out/said" || say "the manual's stack could not be read"
+
 # A caller lays the parameters after the sixth on the stack: at most six, 48 bytes; fewer take no more, aligned to 16.
 grep -v '^linking:' "$out/seen" | LC_ALL=C sort | join "$out/counted" - >"$out/both"
 [ "$(wc -l <"$out/both")" -eq "$(wc -l <"$out/calls")" ] || say "not every call was put on a painted stack"
 while read -r call counted seen; do
     [ "$seen" -le $((counted + 48)) ] || say "$call was seen to take $seen bytes of stack, and $counted were counted"
+    said=$(awk -v call="$call" '$1 == "every" { every = $2 } $1 == call { own = $2 } END { print own == "" ? every + 0 : own }' "$out/said")
+    [ $((counted + 48)) -le "$said" ] || say "$call takes $((counted + 48)) bytes of stack, and docs/MANUAL.md says $said"
     [ $((counted + 48)) -le $most ] || say "$call takes $((counted + 48)) bytes of stack, more than $most"
     [ "${1-}" != --facts ] || echo "$call: at most $((counted + 48)) bytes, seen $seen"
 done <"$out/both"

@@ -14,7 +14,7 @@ use Rattle.floating.specs.Format.{Format, F, sign_of, exponent_of, is_reserved}
 use Rattle.floating.specs.declared.Compared.{Compared}
 use Rattle.floating.specs.Exact.{Exact, size_of, value_of, minus}
 use Rattle.floating.specs.Operations.{compared}
-use Rattle.floating.specs.Working.{swapped, magnitude, magnitudes, ordinal, rank, level, lies}
+use Rattle.floating.specs.Working.{swapped, magnitude, magnitudes, ordinal, rank, level, lies, naming}
 use Rattle.floating.proofs.Packing.{Sound, sign-lt, exponent_lt, fraction-lt, swapped-split}
 use Rattle.floating.proofs.Magnitude.{size-pos, zero_rank, full-rank, rank_less, rank_same}
 use Rattle.floating.proofs.Sums.{Test, same, less, more, order, signs, together-same, together-more, together-less}
@@ -286,23 +286,23 @@ module _ (f : Format) (S : Sound f) (a b x y : ℕ) (r : Ordering) (na : is_rese
 abbrev pub by-order : ℕ → Ordering → Bool
 by-order k o = eqb k 0 && not (is_lt o || is_eq o) || eqb k 1 && is_eq o || eqb k 2 && is_lt o
 
-pub greater-named : (o : Ordering) → is_gt o ≡ by-order 0 o
-greater-named Less = refl
-greater-named Equal = refl
-greater-named Greater = refl
-
-pub equal-named : (o : Ordering) → is_eq o ≡ by-order 1 o
-equal-named Less = refl
-equal-named Equal = refl
-equal-named Greater = refl
-
-pub less-named : (o : Ordering) → is_lt o ≡ by-order 2 o
-less-named Less = refl
-less-named Equal = refl
-less-named Greater = refl
-
-pub none-named : (o : Ordering) → false ≡ by-order 3 o
-none-named o = refl
+-- the relation that names an order is the one that holds of it
+pub one-named : (o : Ordering) (k : ℕ) → k < 4 → eqb (naming o) k ≡ by-order k o
+one-named Less zero l = refl
+one-named Less (suc zero) l = refl
+one-named Less (suc (suc zero)) l = refl
+one-named Less (suc (suc (suc zero))) l = refl
+one-named Less (suc (suc (suc (suc k)))) l = absurd (omega arith)
+one-named Equal zero l = refl
+one-named Equal (suc zero) l = refl
+one-named Equal (suc (suc zero)) l = refl
+one-named Equal (suc (suc (suc zero))) l = refl
+one-named Equal (suc (suc (suc (suc k)))) l = absurd (omega arith)
+one-named Greater zero l = refl
+one-named Greater (suc zero) l = refl
+one-named Greater (suc (suc zero)) l = refl
+one-named Greater (suc (suc (suc zero))) l = refl
+one-named Greater (suc (suc (suc (suc k)))) l = absurd (omega arith)
 
 pub named-holds : (relation k : ℕ) (o : Ordering) (t : Bool) → relation % 4 ≡ k → t ≡ by-order k o
     → not (beq t (eqb (relation / 4 % 2) 1)) ≡ relation_holds relation (is_lt o) (is_eq o)

@@ -96,6 +96,12 @@ pub record Reads (f : Format) (w : ℕ) (r : Float) : Type 0 where
 abbrev pub lies : Exact → Ordering
 lies x = pick (x.num == 0) Equal (pick (x.sign == 1) Less Greater)
 
+-- bits <1:0> of the relations that name an order
+abbrev pub naming : Ordering → ℕ
+naming Greater = 0
+naming Equal = 1
+naming Less = 2
+
 -- one of two words is zero or reserved: its exponent is 0
 abbrev pub is_special : Format → ℕ → ℕ → Bool
 is_special f a b = exponent_of f a == 0 || exponent_of f b == 0

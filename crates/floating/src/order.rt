@@ -5,7 +5,7 @@ ghost use Rattle.numbers.specs.Relation.{relation_holds};
 ghost use Rattle.floating.specs.Format.{F, is_reserved};
 ghost use Rattle.floating.specs.Exact.{value_of, minus};
 ghost use Rattle.floating.specs.Operations.{compared};
-ghost use Rattle.floating.specs.Working.{level, lies};
+ghost use Rattle.floating.specs.Working.{level, lies, naming};
 
 use crate::{Compared, format, word};
 use std::cmp::Ordering;
@@ -30,17 +30,23 @@ fn order_of(a: u32, b: u32) -> Ordering
     word::chosen(falling, y, x).cmp(&word::chosen(falling, x, y))
 }
 
-// The relation holds between two numbers that lie so to each other: bits <1:0> name how, and bit <2> asks for the opposite.
+// The relation that names an order, by its bits <1:0>: 0 where a is greater, 1 where they are equal, 2 where a is less.
+fn named_by(order: Ordering) -> u32
+    ensures { result ≡ naming order }
+{
+    match order {
+        Ordering::Greater => 0,
+        Ordering::Equal => 1,
+        Ordering::Less => 2,
+    }
+}
+
+// The relation holds between two numbers that lie so to each other: bits <1:0> name how, and bit <2> asks for the opposite. The order is one number to compare
+// and no branch.
 fn holds(relation: u32, order: Ordering) -> bool
     ensures { result ≡ relation_holds relation (is_lt order) (is_eq order) }
 {
-    let named = match relation % 4 {
-        0 => order.is_gt(),
-        1 => order.is_eq(),
-        2 => order.is_lt(),
-        _ => false,
-    };
-    named != (relation / 4 % 2 == 1)
+    (named_by(order) == relation % 4) != (relation / 4 % 2 == 1)
 }
 
 pub fn compare_words(relation: u32, a: u32, b: u32) -> Compared

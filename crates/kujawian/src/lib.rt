@@ -60,6 +60,7 @@ pub fn kuj_read_vpsr(control: &[u64; 5], beside: &mut u64) -> u32
 }
 
 // The control writes alter the record where the caller keeps it: a refusal stores nothing.
+#[tactic(auto, using(crate::proofs::Writes::written))]
 pub fn kuj_write_vlr(control: &mut Control, value: u64, beside: &mut u64) -> u32
     ensures { ((result, beside.new), control.new) ≡ given (vlr_written control.old value) }
 {
@@ -67,6 +68,7 @@ pub fn kuj_write_vlr(control: &mut Control, value: u64, beside: &mut u64) -> u32
     answers::give(answer::settle(after, control), beside)
 }
 
+#[tactic(auto, using(crate::proofs::Writes::written))]
 pub fn kuj_write_vcr(control: &mut Control, value: u64, beside: &mut u64) -> u32
     ensures { ((result, beside.new), control.new) ≡ given (vcr_written control.old value) }
 {
@@ -74,6 +76,7 @@ pub fn kuj_write_vcr(control: &mut Control, value: u64, beside: &mut u64) -> u32
     answers::give(answer::settle(after, control), beside)
 }
 
+#[tactic(auto, using(crate::proofs::Writes::written))]
 pub fn kuj_write_vmr_low(control: &mut Control, value: u32, beside: &mut u64) -> u32
     ensures { ((result, beside.new), control.new) ≡ given (vmr_low_written control.old value) }
 {
@@ -81,6 +84,7 @@ pub fn kuj_write_vmr_low(control: &mut Control, value: u32, beside: &mut u64) ->
     answers::give(answer::settle(after, control), beside)
 }
 
+#[tactic(auto, using(crate::proofs::Writes::written))]
 pub fn kuj_write_vmr_high(control: &mut Control, value: u32, beside: &mut u64) -> u32
     ensures { ((result, beside.new), control.new) ≡ given (vmr_high_written control.old value) }
 {
@@ -88,6 +92,7 @@ pub fn kuj_write_vmr_high(control: &mut Control, value: u32, beside: &mut u64) -
     answers::give(answer::settle(after, control), beside)
 }
 
+#[tactic(auto, using(crate::proofs::Writes::written))]
 pub fn kuj_write_vpsr(control: &mut Control, value: u32, beside: &mut u64) -> u32
     ensures { ((result, beside.new), control.new) ≡ given (vpsr_written control.old value) }
 {

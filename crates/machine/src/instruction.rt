@@ -44,7 +44,9 @@ fn noted(instruction: Instruction, vmr: u64, vcr: u64, types: u64, which: u64) -
 }
 
 // The work of the elements of a set, which lies below VLR; or IOTA's one step. Control numbers go in and out by themselves: the record
-// would go through memory.
+// would go through memory. So the loops stand apart (`lanes::over`, `mask::over`), and what is around them is put in line where an instruction is called for,
+// with a run's record at hand.
+#[inline(always)]
 fn effect(
     elements: &mut [u64; 1024],
     instruction: Instruction,
@@ -116,6 +118,7 @@ fn effected(
 }
 
 // A register instruction, whole.
+#[inline(always)]
 pub fn whole(
     elements: &mut [u64; 1024],
     marks: &mut [u64; 16],

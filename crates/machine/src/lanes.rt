@@ -107,6 +107,7 @@ impl<const SCALAR: bool> Lanes<SCALAR> {
 
     // The sums of the elements of the set, or the differences. The loop itself tells special operands from others: a function of one element with
     // both cases is too large for the compiler to put into two loops.
+    #[inline(always)]
     #[tactic(auto, using(crate::proofs::LaneLoops::end_walk), unfolding(crate::specs::Working::lane_of, crate::specs::Working::lane_in))]
     fn sums(self, elements: &mut [u64; 1024], minus: bool) -> u64
         requires { Below self.instruction × (self.instruction.scalar ≡ SCALAR) }
@@ -130,6 +131,7 @@ impl<const SCALAR: bool> Lanes<SCALAR> {
     }
 
     // The products of the elements of the set, or the quotients.
+    #[inline(always)]
     #[tactic(auto, using(crate::proofs::LaneLoops::end_walk), unfolding(crate::specs::Working::lane_of, crate::specs::Working::lane_in))]
     fn products(self, elements: &mut [u64; 1024], divide: bool) -> u64
         requires { Below self.instruction × (self.instruction.scalar ≡ SCALAR) }
@@ -149,6 +151,7 @@ impl<const SCALAR: bool> Lanes<SCALAR> {
     }
 
     // One conversion of the elements of the set.
+    #[inline(always)]
     #[tactic(auto, using(crate::proofs::LaneLoops::end_walk), unfolding(crate::specs::Working::lane_of, crate::specs::Working::lane_in))]
     fn converts(self, elements: &mut [u64; 1024], conversion: u64) -> u64
         requires { Below self.instruction }
@@ -206,6 +209,7 @@ impl<const SCALAR: bool> Lanes<SCALAR> {
 }
 
 // The work of the elements of a set, by the form.
+#[inline(never)]
 pub fn over(
     elements: &mut [u64; 1024],
     instruction: Instruction,

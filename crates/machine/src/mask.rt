@@ -4,7 +4,6 @@ ghost use Rattle.std.specs.Prelude.{◌≡◌, true, not, ◌||◌, ℕ, ◌<◌
 ghost use Rattle.numbers.specs.Choice.{pick};
 ghost use Rattle.numbers.specs.Bits.{bit};
 ghost use Rattle.opcodes.specs.Opcodes.{writes_mask};
-ghost use Rattle.opcodes.specs.declared.works.Work.TheVariants.{CompareLongword};
 ghost use Rattle.element.specs.Working.{is_compare};
 ghost use Rattle.state.specs.declared.Control.{Control};
 ghost use Rattle.machine.specs.Run.{Gathered, run as run_of};
@@ -86,18 +85,19 @@ impl<const SCALAR: bool> Compares<SCALAR> {
         Found { found, refused }
     }
 
-    // Longwords, with a constant for each relation: the compiler makes a loop for each.
-    fn longwords(self, elements: &[u64; 1024], relation: u64, n: usize) -> Found
-        requires { Below self.instruction × (self.instruction.scalar ≡ SCALAR) × (n ≤ 64) }
-        ensures found { result.found ≡ odd_from (λ i. (compared_at CompareLongword relation self.entry.instruction.scalar self.entry.instruction self.entry.scalar elements.now i).value) 0 n }
-        ensures refused { result.refused ≡ odd_from (λ i. (compared_at CompareLongword relation self.entry.instruction.scalar self.entry.instruction self.entry.scalar elements.now i).types / 4) 0 n }
+    // One work, with a constant for each relation: the compiler makes a loop for each.
+    #[inline(always)]
+    fn by_relation(self, elements: &[u64; 1024], work: Work, relation: u64, n: usize) -> Found
+        requires { (is_compare work ≡ true) × Below self.instruction × (self.instruction.scalar ≡ SCALAR) × (n ≤ 64) }
+        ensures found { result.found ≡ odd_from (λ i. (compared_at work relation self.entry.instruction.scalar self.entry.instruction self.entry.scalar elements.now i).value) 0 n }
+        ensures refused { result.refused ≡ odd_from (λ i. (compared_at work relation self.entry.instruction.scalar self.entry.instruction self.entry.scalar elements.now i).types / 4) 0 n }
     {
         match relation {
-            0 => self.every(elements, Work::CompareLongword, 0, n),
-            1 => self.every(elements, Work::CompareLongword, 1, n),
-            2 => self.every(elements, Work::CompareLongword, 2, n),
+            0 => self.every(elements, work, 0, n),
+            1 => self.every(elements, work, 1, n),
+            2 => self.every(elements, work, 2, n),
             // No accepted control word has another relation.
-            _ => self.every(elements, Work::CompareLongword, relation, n),
+            _ => self.every(elements, work, relation, n),
         }
     }
 
@@ -108,9 +108,11 @@ impl<const SCALAR: bool> Compares<SCALAR> {
         ensures refused { result.refused ≡ odd_from (λ i. (compared_at self.entry.instruction.work relation self.entry.instruction.scalar self.entry.instruction self.entry.scalar elements.now i).types / 4) 0 n }
     {
         match self.instruction.work {
-            Work::CompareLongword => self.longwords(elements, relation, n),
+            Work::CompareLongword => {
+                self.by_relation(elements, Work::CompareLongword, relation, n)
+            }
             // F: the only compare that is left.
-            _ => self.every(elements, Work::CompareF, relation, n),
+            _ => self.by_relation(elements, Work::CompareF, relation, n),
         }
     }
 
@@ -151,6 +153,7 @@ fn found(
 }
 
 // The compares of the elements of a set that lies below n.
+#[inline(never)]
 pub fn over(
     elements: &[u64; 1024],
     instruction: Instruction,

@@ -39,12 +39,13 @@ impl Addressing {
         }
     }
 
-    // The addresses of all 64 elements by the stride. The loop has no branch and a fixed end, so that the machine does several at once.
-    fn all_by_stride(self, addresses: &mut [u32; 64])
-        ensures { AddressesBelow (strided self.base self.stride) 64 addresses.new }
+    // The same by the stride. The loop has no branch, so that the machine does several at once.
+    fn all_by_stride(self, addresses: &mut [u32; 64], n: usize)
+        requires { n ≤ 64 }
+        ensures { AddressesBelow (strided self.base self.stride) n addresses.new }
     {
         let mut address = self.base;
-        for place in addresses {
+        for place in &mut addresses[..n] {
             *place = address;
             address = address.wrapping_add(self.stride);
         }
@@ -58,7 +59,7 @@ impl Addressing {
         if self.offsets {
             self.all_by_offset(addresses, elements, n);
         } else {
-            self.all_by_stride(addresses);
+            self.all_by_stride(addresses, n);
         }
     }
 }

@@ -41,7 +41,9 @@ fn all_or_none(
     Ok(control)
 }
 
-// Loads, stores, gathers or scatters. The window is tested first, then every operated element; only if all are fine is anything moved.
+// Loads, stores, gathers or scatters. The window is tested first, then every operated element; only if all are fine is anything moved. It stands apart, so
+// that no change elsewhere moves its short loops: where they lie weighs two fifths.
+#[inline(never)]
 #[tactic(auto, unfolding(crate::specs::Move::moved_of))]
 pub fn transfer(
     elements: &mut [u64; 1024],

@@ -1,4 +1,4 @@
--- What the code asks of an instruction and of a work. No public promise cites this.
+-- What the code asks of an instruction and of a work. No promise of a call cites this; `Work::numbered`'s cites `work_of`.
 use Rattle.std.specs.Prelude.{Bool, true, false, not, ◌&&◌, ◌||◌, List, [], ◌∷◌, ℕ, ◌%◌, ◌<◌, eqb}
 use Rattle.numbers.specs.Choice.{pick}
 use Rattle.numbers.specs.Working.{chosen, OnesBelow}

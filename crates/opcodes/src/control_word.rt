@@ -45,14 +45,14 @@ fn held_refused(i: Instruction) -> bool
 fn gather_refused(i: Instruction) -> bool
     ensures { result ≡ gather_refused i }
 {
-    i.work.is_load() & (i.scalar & (i.vb == i.vc))
+    i.work.is_load() && (i.scalar & (i.vb == i.vc))
 }
 
 // The instruction's control word is reserved.
 fn refused(i: Instruction) -> bool
     ensures { result ≡ refused_of i }
 {
-    held_refused(i) | gather_refused(i)
+    held_refused(i) || gather_refused(i)
 }
 
 // The instruction that an accepted opcode and a control word make.

@@ -6,7 +6,7 @@ ghost use Rattle.opcodes.specs.Working.{work_of};
 ghost use Rattle.opcodes.specs.Works.{row_of, reads, is_mask_bit, is_counted, is_move, is_load, is_store, size_of};
 
 // What an instruction does.
-#[derive(Clone, Copy)]
+#[derive(Clone, Copy, PartialEq, Eq)]
 pub enum Work {
     // No opcode has it; it leaves its element as it was.
     NoWork,
@@ -45,7 +45,7 @@ pub enum Holds {
 impl Work {
     // The work of a number: its place among the cases. One past the last is none's.
     #[tactic(auto, unfolding(crate::specs::Working::work_of))]
-    pub(crate) fn numbered(number: u8) -> Work
+    pub fn numbered(number: u8) -> Work
         ensures { result ≡ work_of number }
     {
         match number {

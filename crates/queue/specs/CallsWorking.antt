@@ -40,6 +40,11 @@ through_by program scalars n r = rising (λ (k : ℕ) (x : Run). whole_of (decod
 unfoldable pub standing : Control → Queue → Answer
 standing c q = after_tests c q (Ok 0)
 
+-- the instructions that lie in lent room, where nothing is refused
+abbrev pub holding : Result ⊤ Refusal → List Instruction → Result (List Instruction) Refusal
+holding (Ok _) program = Ok program
+holding (Err refusal) program = Err refusal
+
 -- what a queue gets, and its decoded form where it is accepted
 abbrev pub DecodedAs : Queue → Result (List Instruction) Refusal → Type 0
 DecodedAs q (Ok program) = (k : ℕ) → k < size q → decoded_at program k ≡ instruction_at q k

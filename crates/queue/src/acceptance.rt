@@ -3,7 +3,7 @@ ghost use Rattle.std.specs.Prelude.{◌≡◌};
 ghost use Rattle.state.specs.Answer.{answered};
 ghost use Rattle.touch.specs.Parts.{placeholder as placeholder_of, queue};
 ghost use Rattle.queue.specs.Queue.{well_formed};
-ghost use Rattle.queue.specs.CallsWorking.{standing, Accepts};
+ghost use Rattle.queue.specs.CallsWorking.{standing, holding, Accepts};
 
 use opcodes;
 use opcodes::works::Work;
@@ -20,7 +20,7 @@ fn well_formed(opcodes: &[u8], cntrls: &[u16], scalars: &[u64]) -> bool
 }
 
 // The instruction that stands for a refused one, which no accepted queue has.
-fn placeholder() -> Instruction
+pub fn placeholder() -> Instruction
     ensures { result ≡ placeholder_of }
 {
     Instruction {
@@ -51,19 +51,21 @@ fn stand(control: Control, opcodes: &[u8], cntrls: &[u16], scalars: &[u64]) -> R
     Ok(())
 }
 
-// The instructions of a queue that is accepted. Each position is decoded once, here.
+// Puts the instructions of a queue that is accepted into lent room. Each position is decoded once, here. (Handed on in a result, sixteen instructions just
+// stored would be read again at once, by other widths.)
 pub fn accept(
     control: Control,
     opcodes: &[u8],
     cntrls: &[u16],
     scalars: &[u64],
-) -> Result<[Instruction; 16], Refusal>
-    ensures { Accepts control (queue opcodes.now cntrls.now scalars.now) result }
+    program: &mut [Instruction; 16],
+) -> Result<(), Refusal>
+    ensures { Accepts control (queue opcodes.now cntrls.now scalars.now) (holding result program.new) }
 {
     stand(control, opcodes, cntrls, scalars)?;
-    let mut program = [placeholder(); 16];
     for k in 0..opcodes.len() {
         program[k] = opcodes::decode(true, true, k as u64, opcodes[k], cntrls[k])?;
     }
-    Ok(program)
+    // It passed every test.
+    Ok(())
 }

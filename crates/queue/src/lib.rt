@@ -31,7 +31,8 @@ pub fn run(
 ) -> Result<Control, Refusal>
     ensures { outcome (answered result) (marked (state elements.new (control_left control result)) marks.new) ≡ queue_run (queue opcodes.now cntrls.now scalars.now) (marked (state elements.old control) marks.old) }
 {
-    let instructions = acceptance::accept(control, opcodes, cntrls, scalars)?;
+    let mut instructions = [acceptance::placeholder(); 16];
+    acceptance::accept(control, opcodes, cntrls, scalars, &mut instructions)?;
     let program = Program {
         instructions: &instructions,
         scalars,
@@ -55,7 +56,8 @@ pub fn run_order(
     ensures walked { outcome (answered result) (marked (state elements.new (control_left control result)) marks.new) ≡ walked_run (queue opcodes.now cntrls.now scalars.now) list.now (marked (state elements.old control) marks.old) }
     ensures demand { AcceptedClaim (queue opcodes.now cntrls.now scalars.now) list.now (marked (state elements.old control) marks.old) (number_of (answered result)) (beside_of (answered result)) (marked (state elements.new (control_left control result)) marks.new) }
 {
-    let instructions = acceptance::accept(control, opcodes, cntrls, scalars)?;
+    let mut instructions = [acceptance::placeholder(); 16];
+    acceptance::accept(control, opcodes, cntrls, scalars, &mut instructions)?;
     let mut bound = [0u64; 16];
     let mut tables = Tables::new();
     for k in 0..opcodes.len() {

@@ -8,7 +8,7 @@ pub returns-in_err-stand : goal.returns-in_err-stand
 returns-in_err-stand c = search (accepts-not, rules)
 
 pub loop-k-init : goal.loop-k-init
-loop-k-init c = decoded-none _ (stands-bounded _ _ _ c.in_ok-stand.ensures refl).lengths _ refl
+loop-k-init c = decoded-none _ (stands-bounded _ _ _ c.in_ok-stand.ensures refl).lengths _ (search rules)
 
 pub returns-in_err-program : goal.returns-in_err-program
 returns-in_err-program c =
